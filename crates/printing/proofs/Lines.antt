@@ -9,7 +9,8 @@ use Rattle.std.specs.Vec.{made}
 use Rattle.std.proofs.shelf.Lists.{take-more, take-rest}
 use Rattle.std.proofs.shelf.Results.{made-weaker}
 use Rattle.printing.specs.declared.Word.{Word}
-use Rattle.printing.specs.Words.{spelled, spaced, joined, line-of}
+use Rattle.tokens.specs.Text.{joined, line-of}
+use Rattle.printing.specs.Words.{spelled, spaced}
 
 pub spaced-++ : (xs ys : List (List ℕ)) → spaced (xs ++ ys) ≡ spaced xs ++ spaced ys
 spaced-++ [] ys = refl
@@ -25,10 +26,15 @@ word-more ws i d h start before space after eb es ea =
     ∙ append-assoc (start ++ front) (32 ∷ []) (spelled w)
     ∙ append-assoc start front (32 ∷ spelled w)
     ∙ ap (λ (bs : List ℕ). start ++ bs) (
-      ap (λ (bs : List ℕ). front ++ 32 ∷ bs) (sym (append-nil (spelled w)))
-      ∙ sym (spaced-++ (map spelled (take i ws)) (spelled w ∷ []))
-      ∙ ap spaced (sym (map-append spelled (take i ws) (w ∷ [])))
-      ∙ ap (λ (vs : List Word). spaced (map spelled vs)) (sym (take-more ws i d h)))
+    ap (λ (bs : List ℕ). front ++ 32 ∷ bs) (sym (append-nil (spelled w)))
+    ∙ sym (spaced-++ (map spelled (take i ws)) (spelled w ∷ []))
+    ∙ ap spaced (sym (map-append spelled (take i ws) (w ∷ [])))
+    ∙ ap (λ (vs : List Word). spaced (map spelled vs)) (sym (take-more ws i d h)))
+
+-- a first word, and each other after a space
+first-spaced : (w : List ℕ) (ws : List (List ℕ)) → w ++ spaced ws ≡ joined (w ∷ ws)
+first-spaced w [] = append-nil w
+first-spaced w (v ∷ vs) = ap (λ (bs : List ℕ). w ++ 32 ∷ bs) (first-spaced v vs)
 
 -- the end of a line
 pub line-end : {X E : Type 0} (bytes : X → List ℕ) (r : Result X E) (start body : List ℕ) (ws : List (List ℕ)) → body ≡ start ++ joined ws → made r (λ t. bytes t ≡ body ++ 10 ∷ []) → made r (λ t. bytes t ≡ start ++ line-of ws [])
@@ -50,3 +56,4 @@ some-joined (w ∷ ws) d start one all h eo ea =
     ∙ ap (λ (bs : List ℕ). bs ++ spaced (map spelled (take (length (w ∷ ws) - 1) ws))) eo
     ∙ append-assoc start (spelled w) _
     ∙ ap (λ (vs : List Word). start ++ (spelled w ++ spaced (map spelled vs))) (take-rest (w ∷ ws) 1)
+    ∙ ap (λ (bs : List ℕ). start ++ bs) (first-spaced (spelled w) (map spelled ws))

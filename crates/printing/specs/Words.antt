@@ -15,12 +15,3 @@ spelled (Number n) = signed n
 abbrev pub spaced : List (List ℕ) → List ℕ
 spaced [] = []
 spaced (w ∷ ws) = 32 ∷ (w ++ spaced ws)
-
--- words, one space between
-abbrev pub joined : List (List ℕ) → List ℕ
-joined [] = []
-joined (w ∷ ws) = w ++ spaced ws
-
--- a line, ended by byte 10, before what follows
-abbrev pub line-of : List (List ℕ) → List ℕ → List ℕ
-line-of ws after = joined ws ++ (10 ∷ after)

@@ -3,7 +3,8 @@ ghost use mathlib.Core.Path.{_≡_};
 ghost use mathlib.Core.List.{[], _∷_, map, _++_};
 ghost use Rattle.std.specs.Of.String.{string-bytes};
 ghost use Rattle.std.specs.Vec.{made};
-ghost use Rattle.printing.specs.Words.{spelled, spaced, line-of};
+ghost use Rattle.tokens.specs.Text.{line-of};
+ghost use Rattle.printing.specs.Words.{spelled, spaced};
 use std::alloc::AllocError;
 
 /// A word of a line.

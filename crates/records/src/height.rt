@@ -36,6 +36,7 @@ impl LevelHeight {
     pub fn decimetres(self) -> u32
         ensures { λ r. ⌜ r ≡ self .0 ⌝ }
     {
-        self.0
+        let LevelHeight(dm) = self;
+        dm
     }
 }

@@ -1,0 +1,80 @@
+//! The levels of an order file's frame, or the refusal, as text.
+ghost use mathlib.Core.Path.{_≡_};
+ghost use mathlib.Core.List.{_++_};
+ghost use lib.ListN.{length, take};
+ghost use Rattle.std.specs.Of.String.{string-bytes};
+ghost use Rattle.std.specs.Vec.{made};
+ghost use Rattle.listing.specs.Listings.{heading, lines-to, levels-text, refused-text, listing-text};
+use frames::frame::Frame;
+use order_frame::frame::OrderFrameFrame;
+use order_frame::open;
+use order_frame::opened::NotOpened;
+use order_frame::refusal::Refusal;
+use printing::Word;
+use printing::with_line;
+use records::height::LevelHeight;
+use std::alloc::AllocError;
+use std::alloc::Global;
+
+/// The text that lists the levels of the frame which the file describes, or that tells why there is none.
+pub fn listing(file: &[u8], heap: Global) -> Result<String, AllocError>
+    ensures text { λ r. ⌜ made r (λ t. string-bytes t ≡ listing-text (now (file .entry))) ⌝ }
+    ensures front { λ r. ⌜ made r (λ t. string-bytes t ≡ listing-text (take 8192 (now (file .entry)))) ⌝ }
+{
+    let text = String::new(heap);
+    match open(file, heap) {
+        Ok(opened) => with_levels(text, &opened.frame),
+        Err(NotOpened::Refused(refusal)) => with_refusal(text, &refusal),
+        Err(NotOpened::NoMemory) => Err(AllocError),
+    }
+}
+
+// The text with the levels of a frame behind it.
+fn with_levels<F: Frame>(text: String, frame: &F) -> Result<String, AllocError>
+    ensures { λ r. ⌜ made r (λ t. string-bytes t ≡ string-bytes text ++ levels-text (F·Frame .list (now (frame .entry)))) ⌝ }
+{
+    let heading = [
+        Word::Text("LEVELS"),
+        Word::Number(frame.count() as i64),
+        Word::Number(frame.total_weight() as i64),
+        Word::Number(frame.top().decimetres() as i64),
+    ];
+    with_level_lines(with_line(text, &heading)?, frame)
+}
+
+// The text with a line for each level behind it, from below.
+fn with_level_lines<F: Frame>(text: String, frame: &F) -> Result<String, AllocError>
+    ensures { λ r. ⌜ made r (λ t. string-bytes t ≡ string-bytes text ++ lines-to (F·Frame .list (now (frame .entry))) (length (F·Frame .list (now (frame .entry))))) ⌝ }
+{
+    let mut text = text;
+    let mut height = LevelHeight::ground();
+    for k in 1..=frame.count() {
+        let Some(level) = frame.level(k) else {
+            unreachable()
+        };
+        let Some(higher) = height.above(level.height) else {
+            unreachable()
+        };
+        height = higher;
+        let line = [
+            Word::Number(k as i64),
+            Word::Number(level.weight as i64),
+            Word::Number(height.decimetres() as i64),
+        ];
+        text = with_line(text, &line)?;
+    }
+    Ok(text)
+}
+
+// The text with a refusal behind it.
+fn with_refusal(text: String, refusal: &Refusal) -> Result<String, AllocError>
+    ensures { λ r. ⌜ made r (λ t. string-bytes t ≡ string-bytes text ++ refused-text (now (refusal .entry))) ⌝ }
+{
+    let line = [
+        Word::Text("REFUSED"),
+        Word::Number(refusal.number as i64),
+        Word::Number(refusal.line as i64),
+        Word::Number(refusal.place as i64),
+    ];
+    with_line(text, &line)
+}

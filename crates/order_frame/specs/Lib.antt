@@ -1,0 +1,4 @@
+pub mod Frames
+pub mod OrderFrames
+pub mod Outcomes
+pub mod Refusals

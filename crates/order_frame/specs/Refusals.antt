@@ -1,0 +1,36 @@
+-- What is refused, and the line that is to blame.
+use Prim.Native.Nat.{ℕ, _-_}
+use Rattle.std.specs.declared.option.Option.{Option}
+use Rattle.std.specs.declared.option.Option.the-variants.{Some, None}
+use Rattle.records.specs.declared.kit_numbers.KitNumbers.{KitNumbers}
+use Rattle.tokens.specs.declared.fault.Fault.{Fault}
+use Rattle.tokens.specs.Faults.{fault-number, fault-place, fault-line}
+use Rattle.frames.specs.declared.denial.FrameDenial.{FrameDenial}
+use Rattle.frames.specs.declared.denial.FrameDenial.the-variants.{TooManyLevels, OutOfRange, TooHigh, KitOutOfRange, KitTooHigh}
+use Rattle.frames.specs.Denials.{denial-number, denial-place}
+use Rattle.order_file.specs.File.{Filed}
+use Rattle.order_file.specs.Lines.{kit-line, level-line}
+use Rattle.order_frame.specs.declared.refusal.Refusal.{Refusal}
+
+abbrev pub refusal : ℕ → ℕ → ℕ → Refusal
+refusal number line place = record { number = number; line = line; place = place }
+
+-- a faulty file is to blame on its faulty line
+abbrev pub fault-refusal : Fault → Refusal
+fault-refusal e = refusal (fault-number e) (fault-line e) (fault-place e)
+
+-- how many levels stand below the first that the file lists
+abbrev pub kit-count : Option KitNumbers → ℕ
+kit-count None = 0
+kit-count (Some n) = n .levels
+
+-- the line of the record that a frame's denial is about: the kit's, or that of the level, which counts from the ground
+abbrev pub record-line : Filed → FrameDenial → ℕ
+record-line f (TooManyLevels k) = level-line f (k - kit-count (f .kit))
+record-line f (OutOfRange k) = level-line f (k - kit-count (f .kit))
+record-line f (TooHigh k) = level-line f (k - kit-count (f .kit))
+record-line f KitOutOfRange = kit-line
+record-line f KitTooHigh = kit-line
+
+abbrev pub frame-refusal : Filed → FrameDenial → Refusal
+frame-refusal f d = refusal (denial-number d) (record-line f d) (denial-place d)

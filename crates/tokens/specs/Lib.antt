@@ -1,0 +1,9 @@
+pub mod Text
+pub mod Cuts
+pub mod Numbers
+pub mod Said
+pub mod Marks
+pub mod Fields
+pub mod Faults
+pub mod TextLines
+pub mod Written
