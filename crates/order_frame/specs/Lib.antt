@@ -1,4 +1,6 @@
 pub mod Frames
 pub mod OrderFrames
 pub mod Outcomes
+pub mod Reasons
 pub mod Refusals
+pub mod Unread

@@ -1,5 +1,9 @@
 -- What is refused, and the line that is to blame.
+use mathlib.Core.List.{List, [], _∷_}
 use Prim.Native.Nat.{ℕ, _-_}
+use lib.Chars.{codes}
+use Rattle.std.specs.Options.{mapped}
+use Rattle.std.specs.Written.{decimal}
 use Rattle.std.specs.declared.option.Option.{Option}
 use Rattle.std.specs.declared.option.Option.the-variants.{Some, None}
 use Rattle.records.specs.declared.kit_numbers.KitNumbers.{KitNumbers}
@@ -9,11 +13,15 @@ use Rattle.frames.specs.declared.denial.FrameDenial.{FrameDenial}
 use Rattle.frames.specs.declared.denial.FrameDenial.the-variants.{TooManyLevels, OutOfRange, TooHigh, KitOutOfRange, KitTooHigh}
 use Rattle.frames.specs.Denials.{denial-number, denial-place}
 use Rattle.order_file.specs.File.{Filed}
-use Rattle.order_file.specs.Lines.{kit-line, level-line}
+use Rattle.order_file.specs.Lines.{kit-line, level-line, where-listed}
 use Rattle.order_frame.specs.declared.refusal.Refusal.{Refusal}
 
 abbrev pub refusal : ℕ → ℕ → ℕ → Refusal
 refusal number line place = record { number = number; line = line; place = place }
+
+-- the words that it is printed with
+abbrev pub refused-words : Refusal → List (List ℕ)
+refused-words r = codes "REFUSED" ∷ decimal (r .number) ∷ decimal (r .line) ∷ decimal (r .place) ∷ []
 
 -- a faulty file is to blame on its faulty line
 abbrev pub fault-refusal : Fault → Refusal
@@ -32,5 +40,18 @@ record-line f (TooHigh k) = level-line f (k - kit-count (f .kit))
 record-line f KitOutOfRange = kit-line
 record-line f KitTooHigh = kit-line
 
+-- the refusal of the file's frame
 abbrev pub frame-refusal : Filed → FrameDenial → Refusal
 frame-refusal f d = refusal (denial-number d) (record-line f d) (denial-place d)
+
+-- the line of level k of the frame, where the file lists it
+abbrev pub listed-line : Filed → ℕ → Option ℕ
+listed-line f k = where-listed (k - kit-count (f .kit)) (f .levels) (level-line f (k - kit-count (f .kit)))
+
+-- the line of the record that a denial is about, where the file has it
+abbrev pub found-line : Filed → FrameDenial → Option ℕ
+found-line f (TooManyLevels k) = listed-line f k
+found-line f (OutOfRange k) = listed-line f k
+found-line f (TooHigh k) = listed-line f k
+found-line f KitOutOfRange = mapped (λ _. kit-line) (f .kit)
+found-line f KitTooHigh = mapped (λ _. kit-line) (f .kit)

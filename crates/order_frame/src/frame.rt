@@ -1,6 +1,7 @@
 //! The frame that the records of an order file describe.
 ghost use mathlib.Core.Path.{_≡_};
 ghost use Rattle.order_frame.specs.OrderFrames.{frame-list, Framed, Topped-by};
+ghost use Rattle.order_frame.specs.Reasons.{Reasoned};
 use frames::denial::FrameDenial;
 use frames::denial::NotLaid;
 use frames::denial::NotLaidByDenial;
@@ -23,22 +24,30 @@ pub enum OrderFrame {
 }
 
 impl OrderFrame {
-    /// Lays the levels, or puts them on the kit from below.
+    /// The frame of the levels, laid as a table, or put on the kit from below; nothing is kept of one that is denied.
     pub fn new(
         kit: Option<KitNumbers>,
         levels: &[Level],
         heap: Global,
     ) -> Result<OrderFrame, NotLaid>
-        ensures { λ r. ⌜ Framed kit (now (levels .entry)) r ⌝ }
+        ensures frame { λ r. ⌜ Framed kit (now (levels .entry)) r ⌝ }
+        ensures reason { λ r. ⌜ Reasoned kit (now (levels .entry)) r ⌝ }
     {
-        match kit {
-            None => {
-                let mut typed = Typed::new(heap);
-                typed.lay(levels)?;
-                Ok(OrderFrame::Typed(typed))
-            }
-            Some(numbers) => Ok(OrderFrame::Topped(topped(numbers, levels)?)),
+        make(kit, levels, heap)
+    }
+}
+
+// Lays the levels, or puts them on the kit from below.
+fn make(kit: Option<KitNumbers>, levels: &[Level], heap: Global) -> Result<OrderFrame, NotLaid>
+    ensures { λ r. ⌜ Framed kit (now (levels .entry)) r ⌝ }
+{
+    match kit {
+        None => {
+            let mut typed = Typed::new(heap);
+            typed.lay(levels)?;
+            Ok(OrderFrame::Typed(typed))
         }
+        Some(numbers) => Ok(OrderFrame::Topped(topped(numbers, levels)?)),
     }
 }
 

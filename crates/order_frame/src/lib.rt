@@ -1,13 +1,24 @@
 //! From the bytes of an order file to its records and the frame that they describe, or to the refusal.
+ghost use mathlib.Core.Path.{_≡_};
+ghost use Rattle.std.specs.Of.Vec.{vec-items};
+ghost use Rattle.std.specs.declared.option.Option.the-variants.{Some};
+ghost use Rattle.order_file.specs.File.{filed};
+ghost use Rattle.order_frame.specs.declared.opened.NotOpened.the-variants.{Refused};
+ghost use Rattle.order_frame.specs.Frames.{frame-denial};
 ghost use Rattle.order_frame.specs.Outcomes.{outcome, Opened-as};
-use denied::refusal_of;
+ghost use Rattle.order_frame.specs.Refusals.{frame-refusal};
+use denied::record_line;
 use frame::OrderFrame;
+use frames::denial::FrameDenial;
+use frames::denial::FrameDenialTold;
 use frames::denial::NotLaid;
 use opened::NotOpened;
+use opened::NotOpenedByReader;
 use opened::Opened;
+use order_file::contents::OrderFile;
 use order_file::read;
+use refusal::Refusal;
 use std::alloc::Global;
-use tokens::fault::Fault;
 
 mod denied;
 pub mod frame;
@@ -15,13 +26,24 @@ pub mod opened;
 pub mod refusal;
 
 /// Reads an order file and makes its frame: the file is judged first, then the kit, then the levels from below.
-pub fn open(file: &[u8], heap: Global) -> Result<Opened, NotOpened>
-    ensures { λ r. ⌜ Opened-as r (outcome (now (file .entry))) ⌝ }
+pub fn open(bytes: &[u8], heap: Global) -> Result<Opened, NotOpened>
+    ensures { λ r. ⌜ Opened-as r (outcome (now (bytes .entry))) ⌝ }
 {
-    let file = read(file, heap)?;
+    let file = read(bytes, heap)?;
     match OrderFrame::new(file.kit, &file.levels, heap) {
         Ok(frame) => Ok(Opened { file, frame }),
-        Err(NotLaid::Denied(denial)) => Err(NotOpened::Refused(refusal_of(&file, denial))),
+        Err(NotLaid::Denied(denial)) => Err(refused(&file, denial)),
         Err(NotLaid::NoMemory) => Err(NotOpened::NoMemory),
     }
+}
+
+// The refusal of a frame that is denied, on the line of the record that the denial is about.
+fn refused(file: &OrderFile, denial: FrameDenial) -> NotOpened
+    requires { ⌜ frame-denial (now file .kit) (vec-items (now file .levels)) ≡ Some denial ⌝ }
+    ensures { λ r. ⌜ r ≡ Refused (frame-refusal (filed (now (file .entry))) denial) ⌝ }
+{
+    let Some(line) = record_line(file, denial) else {
+        unreachable()
+    };
+    NotOpened::Refused(Refusal::on_line(&denial, line))
 }

@@ -1,7 +1,6 @@
 //! What opening an order file answers.
 ghost use mathlib.Core.Path.{_≡_};
-ghost use Rattle.order_frame.specs.Refusals.{fault-refusal};
-ghost use Rattle.order_frame.specs.declared.opened.NotOpened.the-variants.{Refused, NoMemory};
+ghost use Rattle.order_frame.specs.Unread.{unread};
 use crate::frame::OrderFrame;
 use crate::refusal::Refusal;
 use order_file::contents::OrderFile;
@@ -19,6 +18,17 @@ pub struct Opened {
 #[derive(Clone, Copy)]
 pub enum NotOpened {
     Refused(Refusal),
-    /// The file is good as far as it was read, and memory is wanting for it.
+    /// Memory is wanting for its records.
     NoMemory,
+}
+
+pub impl From<NotRead> for NotOpened as NotOpenedByReader {
+    ghost converts = { λ e r. r ≡ unread e };
+
+    fn from(error: NotRead) -> NotOpened {
+        match error {
+            NotRead::Faulty(fault) => NotOpened::Refused(Refusal::on_line(&fault, fault.line())),
+            NotRead::NoMemory => NotOpened::NoMemory,
+        }
+    }
 }

@@ -1,6 +1,9 @@
 //! A refusal as every program prints it.
 ghost use mathlib.Core.Path.{_≡_};
-ghost use Rattle.order_frame.specs.Refusals.{refusal};
+ghost use mathlib.Core.List.{map};
+ghost use Rattle.printing.specs.Words.{spelled};
+ghost use Rattle.order_frame.specs.Refusals.{refusal, refused-words};
+use printing::Word;
 use records::denial::Denial;
 
 /// What is refused, by its number, the line of the file that is to blame, and the place.
@@ -21,5 +24,17 @@ impl Refusal {
             line,
             place: denial.place(),
         }
+    }
+
+    /// The words of its line.
+    pub fn words(&self) -> [Word; 4]
+        ensures { λ r. ⌜ map spelled r ≡ refused-words (now (self .entry)) ⌝ }
+    {
+        [
+            Word::Text("REFUSED"),
+            Word::Number(self.number as i64),
+            Word::Number(self.line as i64),
+            Word::Number(self.place as i64),
+        ]
     }
 }

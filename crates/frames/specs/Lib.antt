@@ -1,0 +1,9 @@
+pub mod Denials
+pub mod KitFrames
+pub mod Kits
+pub mod Levels
+pub mod OwnStoreys
+pub mod Steps
+pub mod Tables
+pub mod Toppings
+pub mod TypedLists

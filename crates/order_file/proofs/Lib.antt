@@ -1,0 +1,10 @@
+pub mod Steps
+pub mod Many
+pub mod Exits
+pub mod Layouts
+pub mod Parses
+pub mod Whole
+pub mod First
+pub mod Front
+pub mod Standing
+pub mod Laws

@@ -1,0 +1,9 @@
+pub mod Records
+pub mod Sections
+pub mod File
+pub mod Limits
+pub mod Render
+pub mod Lines
+pub mod First
+pub mod Exact
+pub mod Reading
