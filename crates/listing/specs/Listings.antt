@@ -15,15 +15,19 @@ use Rattle.order_file.specs.File.{Filed}
 use Rattle.order_frame.specs.declared.refusal.Refusal.{Refusal}
 use Rattle.order_frame.specs.Frames.{frame-levels}
 use Rattle.order_frame.specs.Outcomes.{outcome}
+use Rattle.order_frame.specs.Refusals.{refused-words}
 
 -- LEVELS, how many, the total weight, the height of the top
 abbrev pub heading : List Level → List ℕ
 heading ls = line-of (codes "LEVELS" ∷ decimal (length ls) ∷ decimal (weight-of ls) ∷ decimal (height-of ls) ∷ []) []
 
 -- level k, its weight, its height H over the ground
+abbrev pub level-words : ℕ → Level → ℕ → List (List ℕ)
+level-words k l h = decimal k ∷ decimal (l .weight) ∷ decimal h ∷ []
+
 abbrev pub level-line : ℕ → ℕ → Option Level → List ℕ
 level-line k h None = []
-level-line k h (Some l) = line-of (decimal k ∷ decimal (l .weight) ∷ decimal h ∷ []) []
+level-line k h (Some l) = line-of (level-words k l h) []
 
 -- the lines of levels 1 to k
 abbrev pub lines-to : List Level → ℕ → List ℕ
@@ -34,14 +38,10 @@ lines-to ls (suc k) = lines-to ls k ++ level-line (suc k) (level-height ls (suc 
 abbrev pub levels-text : List Level → List ℕ
 levels-text ls = heading ls ++ lines-to ls (length ls)
 
--- REFUSED, the number, the line of the file, the place
-abbrev pub refused-text : Refusal → List ℕ
-refused-text r = line-of (codes "REFUSED" ∷ decimal (r .number) ∷ decimal (r .line) ∷ decimal (r .place) ∷ []) []
-
 -- what is printed for the outcome of a file
 abbrev pub text-of : Result Filed Refusal → List ℕ
 text-of (Ok f) = levels-text (frame-levels (f .kit) (f .levels))
-text-of (Err r) = refused-text r
+text-of (Err r) = line-of (refused-words r) []
 
 -- what is printed for the bytes of a file
 abbrev pub listing-text : List ℕ → List ℕ

@@ -1,18 +1,19 @@
 //! The levels of an order file's frame, or the refusal, as text.
 ghost use mathlib.Core.Path.{_≡_};
-ghost use mathlib.Core.List.{_++_};
+ghost use mathlib.Core.List.{[], _++_};
 ghost use lib.ListN.{length, take};
 ghost use Rattle.std.specs.Of.String.{string-bytes};
 ghost use Rattle.std.specs.Vec.{made};
-ghost use Rattle.listing.specs.Listings.{heading, lines-to, levels-text, refused-text, listing-text};
+ghost use Rattle.tokens.specs.Text.{line-of};
+ghost use Rattle.listing.specs.Listings.{heading, level-words, lines-to, levels-text, listing-text};
 use frames::frame::Frame;
 use order_frame::frame::OrderFrameFrame;
 use order_frame::open;
 use order_frame::opened::NotOpened;
-use order_frame::refusal::Refusal;
 use printing::Word;
 use printing::with_line;
 use records::height::LevelHeight;
+use records::level::Level;
 use std::alloc::AllocError;
 use std::alloc::Global;
 
@@ -24,7 +25,7 @@ pub fn listing(file: &[u8], heap: Global) -> Result<String, AllocError>
     let text = String::new(heap);
     match open(file, heap) {
         Ok(opened) => with_levels(text, &opened.frame),
-        Err(NotOpened::Refused(refusal)) => with_refusal(text, &refusal),
+        Err(NotOpened::Refused(refusal)) => with_line(text, &refusal.words()),
         Err(NotOpened::NoMemory) => Err(AllocError),
     }
 }
@@ -33,13 +34,20 @@ pub fn listing(file: &[u8], heap: Global) -> Result<String, AllocError>
 fn with_levels<F: Frame>(text: String, frame: &F) -> Result<String, AllocError>
     ensures { λ r. ⌜ made r (λ t. string-bytes t ≡ string-bytes text ++ levels-text (F·Frame .list (now (frame .entry)))) ⌝ }
 {
-    let heading = [
+    with_level_lines(with_heading(text, frame)?, frame)
+}
+
+// The text with the heading of a frame behind it.
+fn with_heading<F: Frame>(text: String, frame: &F) -> Result<String, AllocError>
+    ensures { λ r. ⌜ made r (λ t. string-bytes t ≡ string-bytes text ++ heading (F·Frame .list (now (frame .entry)))) ⌝ }
+{
+    let words = [
         Word::Text("LEVELS"),
         Word::Number(frame.count() as i64),
         Word::Number(frame.total_weight() as i64),
         Word::Number(frame.top().decimetres() as i64),
     ];
-    with_level_lines(with_line(text, &heading)?, frame)
+    with_line(text, &words)
 }
 
 // The text with a line for each level behind it, from below.
@@ -48,7 +56,8 @@ fn with_level_lines<F: Frame>(text: String, frame: &F) -> Result<String, AllocEr
 {
     let mut text = text;
     let mut height = LevelHeight::ground();
-    for k in 1..=frame.count() {
+    let end = frame.count() + 1;
+    for k in 1..end {
         let Some(level) = frame.level(k) else {
             unreachable()
         };
@@ -56,25 +65,24 @@ fn with_level_lines<F: Frame>(text: String, frame: &F) -> Result<String, AllocEr
             unreachable()
         };
         height = higher;
-        let line = [
-            Word::Number(k as i64),
-            Word::Number(level.weight as i64),
-            Word::Number(height.decimetres() as i64),
-        ];
-        text = with_line(text, &line)?;
+        text = with_level_line(text, k, &level, height)?;
     }
     Ok(text)
 }
 
-// The text with a refusal behind it.
-fn with_refusal(text: String, refusal: &Refusal) -> Result<String, AllocError>
-    ensures { λ r. ⌜ made r (λ t. string-bytes t ≡ string-bytes text ++ refused-text (now (refusal .entry))) ⌝ }
+// The text with the line of level k behind it.
+fn with_level_line(
+    text: String,
+    k: u32,
+    level: &Level,
+    height: LevelHeight,
+) -> Result<String, AllocError>
+    ensures { λ r. ⌜ made r (λ t. string-bytes t ≡ string-bytes text ++ line-of (level-words k (now (level .entry)) (height .0)) []) ⌝ }
 {
-    let line = [
-        Word::Text("REFUSED"),
-        Word::Number(refusal.number as i64),
-        Word::Number(refusal.line as i64),
-        Word::Number(refusal.place as i64),
+    let words = [
+        Word::Number(k as i64),
+        Word::Number(level.weight as i64),
+        Word::Number(height.decimetres() as i64),
     ];
-    with_line(text, &line)
+    with_line(text, &words)
 }

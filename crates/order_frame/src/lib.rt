@@ -1,5 +1,6 @@
 //! From the bytes of an order file to its records and the frame that they describe, or to the refusal.
 ghost use mathlib.Core.Path.{_≡_};
+ghost use lib.ListN.{take};
 ghost use Rattle.std.specs.Of.Vec.{vec-items};
 ghost use Rattle.std.specs.declared.option.Option.the-variants.{Some};
 ghost use Rattle.order_file.specs.File.{filed};
@@ -27,7 +28,8 @@ pub mod refusal;
 
 /// Reads an order file and makes its frame: the file is judged first, then the kit, then the levels from below.
 pub fn open(bytes: &[u8], heap: Global) -> Result<Opened, NotOpened>
-    ensures { λ r. ⌜ Opened-as r (outcome (now (bytes .entry))) ⌝ }
+    ensures told { λ r. ⌜ Opened-as r (outcome (now (bytes .entry))) ⌝ }
+    ensures front { λ r. ⌜ Opened-as r (outcome (take 8192 (now (bytes .entry)))) ⌝ }
 {
     let file = read(bytes, heap)?;
     match OrderFrame::new(file.kit, &file.levels, heap) {
