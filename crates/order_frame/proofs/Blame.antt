@@ -1,38 +1,49 @@
 -- A denial is about a record that the file has.
-use mathlib.Core.Path.{_≡_, ap, subst}
+use mathlib.Core.Path.{_≡_, refl, sym, ap, subst, _∙_}
 use mathlib.Core.Bool.{_&&_}
 use mathlib.Core.List.{List, [], _∷_, _++_}
 use mathlib.Core.Logic.{inl, inr}
 use Prim.Native.Nat.{ℕ, _+_, _-_, _*_, _≤_, _<_}
 use native.Mathlib.Omega.{arith}
 use lib.Dec.{leb, ltb}
-use lib.ListN.{length, length-append}
+use lib.ListN.{length, getD, length-append}
 use Rattle.std.specs.Options.{mapped}
 use Rattle.std.specs.declared.option.Option.{Option}
 use Rattle.std.specs.declared.option.Option.the-variants.{Some, None}
+use Rattle.std.specs.declared.result.Result.{Result}
+use Rattle.std.specs.declared.result.Result.the-variants.{Ok, Err}
 use Rattle.std.proofs.shelf.Tests.{cond-true, le-leb, ltb-true, and-from}
 use Rattle.records.specs.declared.kit_numbers.KitNumbers.{KitNumbers}
 use Rattle.records.specs.declared.level.Level.{Level}
 use Rattle.records.specs.Ranges.{level-fits}
+use Rattle.tokens.specs.declared.fault.Fault.{Fault}
 use Rattle.frames.specs.declared.denial.FrameDenial.{FrameDenial}
 use Rattle.frames.specs.declared.denial.FrameDenial.the-variants.{TooManyLevels, OutOfRange, TooHigh, KitOutOfRange, KitTooHigh}
 use Rattle.frames.specs.Kits.{kit-in-range, kit-list}
-use Rattle.frames.specs.Levels.{height-of}
+use Rattle.frames.specs.Levels.{level-at, height-of}
 use Rattle.frames.specs.Steps.{step-denial}
 use Rattle.frames.specs.Tables.{denial-from}
 use Rattle.frames.proofs.Cases.{one-some, two-some}
 use Rattle.frames.proofs.KitLists.{kit-length, ranged}
-use Rattle.order_file.specs.File.{Filed}
-use Rattle.order_file.specs.Lines.{kit-line}
-use Rattle.order_frame.specs.Frames.{first-added-denial, frame-denial}
-use Rattle.order_frame.specs.Refusals.{kit-count, record-line, listed-line, found-line}
-use Rattle.order_frame.proofs.Reasons.{added-some}
+use Rattle.frames.proofs.Places.{at-high, at-inside}
+use Rattle.order_file.specs.File.{Filed, order-file}
+use Rattle.order_file.specs.Lines.{kit-line, level-line, Lined-up}
+use Rattle.order_frame.specs.declared.refusal.Refusal.{Refusal}
+use Rattle.order_frame.specs.Blame.{Holds-kit, Holds-level, Holds-record, Blames}
+use Rattle.order_frame.specs.Frames.{kit-levels, first-added-denial, frame-denial}
+use Rattle.order_frame.specs.Refusals.{kit-count, record-line, listed-line, found-line, frame-refusal}
+use Rattle.order_frame.proofs.Reasons.{added-some, denied-reason}
 
--- level k is one that the file lists
-listed : (f : Filed) (k : ℕ) → kit-count (f .kit) < k → k ≤ kit-count (f .kit) + length (f .levels) → listed-line f k ≡ Some (record-line f (OutOfRange k))
-listed f k low high =
+-- level k is one that the file lists, over the kit
+pub record Listed (f : Filed) (k : ℕ) : Type 0 where
+  pub over-kit : kit-count (f .kit) < k
+  pub within : k ≤ kit-count (f .kit) + length (f .levels)
+  pub kit-long : length (kit-levels (f .kit)) ≡ kit-count (f .kit)
+
+listed : (f : Filed) (k : ℕ) → Listed f k → listed-line f k ≡ Some (record-line f (OutOfRange k))
+listed f k p =
     cond-true (leb 1 (k - kit-count (f .kit)) && leb (k - kit-count (f .kit)) (length (f .levels))) _ None
-    (and-from _ _ (le-leb 1 _ (omega arith)) (le-leb _ (length (f .levels)) (omega arith)))
+    (and-from _ _ (le-leb 1 _ (omega (arith, p .over-kit))) (le-leb _ (length (f .levels)) (omega (arith, p .within))))
 
 -- a level denied, of those over `low` up to `high`
 abbrev Between : ℕ → ℕ → FrameDenial → Type 0
@@ -77,25 +88,88 @@ scanned-between k h (l ∷ rest) d e =
       | inr (inr (f, g, later)) ↦ wider k (k + 1) (k + 1 + length rest) _ d (omega arith) (omega arith) (scanned-between (k + 1) (h + l .height .0) rest d later)
     ]
 
-between-listed : (f : Filed) (d : FrameDenial) → Between (kit-count (f .kit)) (kit-count (f .kit) + length (f .levels)) d → found-line f d ≡ Some (record-line f d)
-between-listed f (TooManyLevels k) (low, high) = listed f k low high
-between-listed f (OutOfRange k) (low, high) = listed f k low high
-between-listed f (TooHigh k) (low, high) = listed f k low high
-between-listed f KitOutOfRange p = absurd p
-between-listed f KitTooHigh p = absurd p
+-- the record that a denial is about
+abbrev pub Located : Filed → FrameDenial → Type 0
+Located f (TooManyLevels k) = Listed f k
+Located f (OutOfRange k) = Listed f k
+Located f (TooHigh k) = Listed f k
+Located f KitOutOfRange = (n : KitNumbers) × (f .kit ≡ Some n)
+Located f KitTooHigh = (n : KitNumbers) × (f .kit ≡ Some n)
 
-pub blamed : (kit : Option KitNumbers) (f : Filed) (d : FrameDenial) → f .kit ≡ kit → length (f .levels) ≤ 24 → frame-denial kit (f .levels) ≡ Some d → found-line f d ≡ Some (record-line f d)
-blamed None f d is few e =
+between-located : (f : Filed) (d : FrameDenial) → length (kit-levels (f .kit)) ≡ kit-count (f .kit) → Between (kit-count (f .kit)) (kit-count (f .kit) + length (f .levels)) d → Located f d
+between-located f (TooManyLevels k) e (low, high) = record { over-kit = low; within = high; kit-long = e }
+between-located f (OutOfRange k) e (low, high) = record { over-kit = low; within = high; kit-long = e }
+between-located f (TooHigh k) e (low, high) = record { over-kit = low; within = high; kit-long = e }
+between-located f KitOutOfRange e p = absurd p
+between-located f KitTooHigh e p = absurd p
+
+located-at : (kit : Option KitNumbers) (f : Filed) (d : FrameDenial) → f .kit ≡ kit → length (f .levels) ≤ 24 → frame-denial kit (f .levels) ≡ Some d → Located f d
+located-at None f d is few e =
+    let c = ap kit-count is in
     elim (one-some (ltb 24 (length (f .levels))) (TooManyLevels 25) d _ e) [
       | inl (t, same) ↦ absurd (omega (arith, ltb-true _ _ t))
-      | inr (t, more) ↦ between-listed f d (wider _ 0 (0 + length (f .levels)) _ d (omega (arith, ap kit-count is)) (omega (arith, ap kit-count is)) (scanned-between 0 0 (f .levels) d more))
+      | inr (t, more) ↦
+          between-located f d (ap (λ (k : Option KitNumbers). length (kit-levels k)) is ∙ sym c)
+          (wider _ 0 (0 + length (f .levels)) _ d (omega arith) (omega arith) (scanned-between 0 0 (f .levels) d more))
     ]
-blamed (Some n) f d is few e =
+located-at (Some n) f d is few e =
     elim (two-some (kit-in-range n) (ltb 500 (n .levels * n .height .0)) KitOutOfRange KitTooHigh d _ e) [
-      | inl (g, same) ↦ subst (λ (x : FrameDenial). found-line f x ≡ Some (record-line f x)) same (ap (mapped (λ _. kit-line)) is)
-      | inr (inl (g, h, same)) ↦ subst (λ (x : FrameDenial). found-line f x ≡ Some (record-line f x)) same (ap (mapped (λ _. kit-line)) is)
+      | inl (g, same) ↦ subst (Located f) same (n, is)
+      | inr (inl (g, h, same)) ↦ subst (Located f) same (n, is)
       | inr (inr (g, h, more)) ↦
-          let n-long = kit-length n (ranged n g .some) in
+          let long = kit-length n (ranged n g .some) in
           let c = ap kit-count is in
-          between-listed f d (wider _ (length (kit-list n)) (length (kit-list n) + length (f .levels)) _ d (omega arith) (omega arith) (added-between (kit-list n) (f .levels) 0 d more))
+          between-located f d (ap (λ (k : Option KitNumbers). length (kit-levels k)) is ∙ long ∙ sym c)
+          (wider _ (length (kit-list n)) (length (kit-list n) + length (f .levels)) _ d (omega arith) (omega arith) (added-between (kit-list n) (f .levels) 0 d more))
     ]
+
+pub located : (f : Filed) (d : FrameDenial) → length (f .levels) ≤ 24 → frame-denial (f .kit) (f .levels) ≡ Some d → Located f d
+located f d few e = located-at (f .kit) f d refl few e
+
+kit-found : (f : Filed) → (n : KitNumbers) × (f .kit ≡ Some n) → mapped (λ _. kit-line) (f .kit) ≡ Some kit-line
+kit-found f (n, is) = ap (mapped (λ _. kit-line)) is
+
+pub found : (f : Filed) (d : FrameDenial) → Located f d → found-line f d ≡ Some (record-line f d)
+found f (TooManyLevels k) p = listed f k p
+found f (OutOfRange k) p = listed f k p
+found f (TooHigh k) p = listed f k p
+found f KitOutOfRange p = kit-found f p
+found f KitTooHigh p = kit-found f p
+
+-- a level that the file lists stands on its line
+holds-level : (f : Filed) (bytes : List ℕ) (k : ℕ) → Lined-up f bytes → Listed f k → Holds-level f k (level-line f (k - kit-count (f .kit))) bytes
+holds-level f bytes k lines p =
+    let n = kit-count (f .kit) in
+    let blank : Level = record { weight = 0; height = record { 0 = 0 }; stiffness = 0; «mass_centre» = 0; «torsion_centre» = 0; width = 0 } in
+    let some : 1 ≤ k - n = omega (arith, p .over-kit) in
+    let few : k - n ≤ length (f .levels) = omega (arith, p .within) in (
+      getD (f .levels) (k - n - 1) blank,
+      at-high (kit-levels (f .kit)) (f .levels) k (omega (arith, p .over-kit, p .kit-long))
+          ∙ ap (λ (x : ℕ). level-at (f .levels) (k - x)) (p .kit-long)
+          ∙ at-inside (f .levels) (k - n) blank some few,
+      lines .level (k - n) blank some few,
+    )
+
+holds-kit : (f : Filed) (bytes : List ℕ) → Lined-up f bytes → (n : KitNumbers) × (f .kit ≡ Some n) → Holds-kit f kit-line bytes
+holds-kit f bytes lines (n, is) = (n, is, lines .kit n is)
+
+holds : (f : Filed) (bytes : List ℕ) (d : FrameDenial) → Lined-up f bytes → Located f d → Holds-record f d (record-line f d) bytes
+holds f bytes (TooManyLevels k) lines p = holds-level f bytes k lines p
+holds f bytes (OutOfRange k) lines p = holds-level f bytes k lines p
+holds f bytes (TooHigh k) lines p = holds-level f bytes k lines p
+holds f bytes KitOutOfRange lines p = holds-kit f bytes lines p
+holds f bytes KitTooHigh lines p = holds-kit f bytes lines p
+
+-- a file that is read, and whose frame is denied
+pub blames : (f : Filed) (bytes : List ℕ) (d : FrameDenial) (r : Refusal) → order-file bytes ≡ Ok f → Lined-up f bytes → length (f .levels) ≤ 24 → frame-denial (f .kit) (f .levels) ≡ Some d → r ≡ frame-refusal f d → Blames r (order-file bytes) bytes
+blames f bytes d r is lines few denied told =
+    subst (λ (o : Result Filed Fault). Blames r o bytes) (sym is) (
+      d,
+      told,
+      denied-reason (f .kit) (f .levels) d denied,
+      subst (λ (x : Refusal). Holds-record f d (x .line) bytes) (sym told) (holds f bytes d lines (located f d few denied)),
+    )
+
+-- a file that is not read
+pub no-blame : (e : Fault) (r : Refusal) (bytes : List ℕ) → order-file bytes ≡ Err e → Blames r (order-file bytes) bytes
+no-blame e r bytes is = subst (λ (o : Result Filed Fault). Blames r o bytes) (sym is) tt

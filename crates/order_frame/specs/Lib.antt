@@ -1,3 +1,4 @@
+pub mod Blame
 pub mod Frames
 pub mod OrderFrames
 pub mod Outcomes

@@ -4,7 +4,7 @@ ghost use lib.ListN.{take};
 ghost use Rattle.std.specs.Of.Vec.{vec-items};
 ghost use Rattle.std.specs.declared.option.Option.the-variants.{Some};
 ghost use Rattle.order_file.specs.File.{filed};
-ghost use Rattle.order_frame.specs.declared.opened.NotOpened.the-variants.{Refused};
+ghost use Rattle.order_frame.specs.Blame.{Blamed};
 ghost use Rattle.order_frame.specs.Frames.{frame-denial};
 ghost use Rattle.order_frame.specs.Outcomes.{outcome, Opened-as};
 ghost use Rattle.order_frame.specs.Refusals.{frame-refusal};
@@ -30,22 +30,23 @@ pub mod refusal;
 pub fn open(bytes: &[u8], heap: Global) -> Result<Opened, NotOpened>
     ensures told { λ r. ⌜ Opened-as r (outcome (now (bytes .entry))) ⌝ }
     ensures front { λ r. ⌜ Opened-as r (outcome (take 8192 (now (bytes .entry)))) ⌝ }
+    ensures blame { λ r. ⌜ Blamed r (now (bytes .entry)) ⌝ }
 {
     let file = read(bytes, heap)?;
     match OrderFrame::new(file.kit, &file.levels, heap) {
         Ok(frame) => Ok(Opened { file, frame }),
-        Err(NotLaid::Denied(denial)) => Err(refused(&file, denial)),
+        Err(NotLaid::Denied(denial)) => Err(NotOpened::Refused(refusal_of(&file, denial))),
         Err(NotLaid::NoMemory) => Err(NotOpened::NoMemory),
     }
 }
 
 // The refusal of a frame that is denied, on the line of the record that the denial is about.
-fn refused(file: &OrderFile, denial: FrameDenial) -> NotOpened
+fn refusal_of(file: &OrderFile, denial: FrameDenial) -> Refusal
     requires { ⌜ frame-denial (now file .kit) (vec-items (now file .levels)) ≡ Some denial ⌝ }
-    ensures { λ r. ⌜ r ≡ Refused (frame-refusal (filed (now (file .entry))) denial) ⌝ }
+    ensures { λ r. ⌜ r ≡ frame-refusal (filed (now (file .entry))) denial ⌝ }
 {
     let Some(line) = record_line(file, denial) else {
         unreachable()
     };
-    NotOpened::Refused(Refusal::on_line(&denial, line))
+    Refusal::on_line(&denial, line)
 }

@@ -1,4 +1,4 @@
-use mathlib.Core.Path.{_≡_, sym, ap, refl, _∙_}
+use mathlib.Core.Path.{_≡_, ap, _∙_}
 use Prim.Native.Nat.{ℕ, _≤_}
 use native.Mathlib.Omega.{arith}
 use lib.ListN.{length}
@@ -6,19 +6,18 @@ use Rattle.std.specs.declared.option.Option.the-variants.{Some}
 use Rattle.std.specs.Of.Vec.{vec-items}
 use Rattle.frames.specs.Denials.{denial-number, denial-place}
 use Rattle.order_file.specs.File.{filed}
-use Rattle.order_frame.specs.declared.opened.NotOpened.the-variants.{Refused}
 use Rattle.order_frame.specs.Refusals.{refusal, record-line}
-use Rattle.order_frame.proofs.Blame.{blamed}
-use Rattle.order_frame.proofs.refused.Needs as need
+use Rattle.order_frame.proofs.Blame.{located, found}
+use Rattle.order_frame.proofs.refusal_of.Needs as need
 
 pub unreachable-requires : need.unreachable-requires
 unreachable-requires c κs =
     let few : length (vec-items (c .args .file .now .levels)) ≤ 24 = omega (arith, c .args .file .now .«few_levels», c .args .file .now .levels .ok .0) in
-    c .in-rest .not-Some _ (c .record-line .ensures ∙ blamed (c .args .file .now .kit) (filed (c .args .file .now)) (c .args .denial) refl few (c .pre))
+    c .in-rest .not-Some _ (c .record-line .ensures ∙ found (filed (c .args .file .now)) (c .args .denial) (located (filed (c .args .file .now)) (c .args .denial) few (c .pre)))
 
 pub returns : need.returns
 returns c =
     let few : length (vec-items (c .args .file .now .levels)) ≤ 24 = omega (arith, c .args .file .now .«few_levels», c .args .file .now .levels .ok .0) in
-    let there = c .in-Some .ensures tt ∙ blamed (c .args .file .now .kit) (filed (c .args .file .now)) (c .args .denial) refl few (c .pre) in
+    let there = c .in-Some .ensures tt ∙ found (filed (c .args .file .now)) (c .args .denial) (located (filed (c .args .file .now)) (c .args .denial) few (c .pre)) in
     let line : c .in-Some .line ≡ record-line (filed (c .args .file .now)) (c .args .denial) = cc in
-    ap Refused (c .on-line .ensures ∙ ap (λ (n : ℕ). refusal (denial-number (c .args .denial)) n (denial-place (c .args .denial))) line)
+    c .on-line .ensures ∙ ap (λ (n : ℕ). refusal (denial-number (c .args .denial)) n (denial-place (c .args .denial))) line
