@@ -83,6 +83,7 @@ kit-alike n p =
     let before = n .levels - 1 in
     let len = kit-length n p in
     record {
+      count = len;
       floors = λ k low high.
           let b : k - 1 < length (replicate before (floor n)) = simp length-replicate (omega arith) in
           at-inside (kit-list n) k (floor n) low (omega arith)

@@ -50,14 +50,13 @@ module _ (m : Level → ℕ) where
   total-take [] (suc i) = omega arith
   total-take (x ∷ xs) (suc i) = omega (arith, total-take xs i)
 
-  -- one level more, by its own number
-  pub total-at : (ls : List Level) (k : ℕ) (l : Level) → level-at ls k ≡ Some l → total m (take (k + 1 - 1) ls) ≡ total m (take (k - 1) ls) + m l
-  total-at ls zero l e = let z : _≡_ {A = ℕ} 0 1 = cc in omega arith
-  total-at ls (suc k) l e = let a : suc k - 1 ≡ k = omega arith in let b : suc k + 1 - 1 ≡ suc k = omega arith in rw (b, a) (total-step ls k l e)
+  -- one level more, over i others
+  pub total-more : (ls : List Level) (i : ℕ) (l : Level) → level-at ls (i + 1) ≡ Some l → total m (take (i + 1) ls) ≡ total m (take i ls) + m l
+  total-more ls i l e = let s : i + 1 ≡ suc i = omega arith in rw s (total-step ls i l (rw s at e))
 
   -- the sum up to a level is at most the sum of all
-  pub total-within : (ls : List Level) (k : ℕ) (l : Level) → level-at ls k ≡ Some l → total m (take (k - 1) ls) + m l ≤ total m ls
-  total-within ls k l e = omega (arith, total-at ls k l e, total-take ls (k + 1 - 1))
+  pub total-within : (ls : List Level) (i : ℕ) (l : Level) → level-at ls (i + 1) ≡ Some l → total m (take i ls) + m l ≤ total m ls
+  total-within ls i l e = omega (arith, total-more ls i l e, total-take ls (i + 1))
 
   pub total-append : (xs ys : List Level) → total m (xs ++ ys) ≡ total m xs + total m ys
   total-append [] ys = omega arith
@@ -72,9 +71,8 @@ none-past [] i e = omega arith
 none-past (x ∷ xs) zero e = let z : _≡_ {A = ℕ} 0 1 = cc in omega arith
 none-past (x ∷ xs) (suc i) e = omega (arith, none-past xs i e)
 
-pub none-at : (ls : List Level) (k : ℕ) → 1 ≤ k → level-at ls k ≡ None → length ls < k
-none-at ls zero h e = omega arith
-none-at ls (suc k) h e = omega (arith, none-past ls k e)
+pub none-over : (ls : List Level) (i : ℕ) → level-at ls (i + 1) ≡ None → length ls ≤ i
+none-over ls i e = let s : i + 1 ≡ suc i = omega arith in none-past ls i (rw s at e)
 
 -- no more can be taken than there is
 pub take-min : {X : Type 0} (n m : ℕ) (xs : List X) → length xs ≤ m → take (min n m) xs ≡ take n xs

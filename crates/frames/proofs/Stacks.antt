@@ -91,3 +91,6 @@ module _ (ls : List Level) (i : ℕ) (d : Level) (k h : ℕ) where
 
   pub standing-end : length ls ≤ i → length (standing k h (drop i ls)) ≡ 0
   standing-end p = at-drop-all (λ (xs : List Level). length (standing k h xs)) ls i p
+
+pub same-standing : {n m h k : ℕ} {xs ys : List Level} → n ≡ m → h ≡ k → xs ≡ ys → length (standing n h xs) ≡ length (standing m k ys)
+same-standing {n} {m} {h} {k} {xs} {ys} p q r = ap (λ (x : ℕ). length (standing x h xs)) p ∙ ap (λ (x : ℕ). length (standing m x xs)) q ∙ ap (λ (zs : List Level). length (standing m k zs)) r

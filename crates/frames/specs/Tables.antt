@@ -13,7 +13,7 @@ use Rattle.records.specs.declared.level.Level.{Level}
 use Rattle.records.specs.Ranges.{level-fits}
 use Rattle.frames.specs.declared.denial.FrameDenial.{FrameDenial}
 use Rattle.frames.specs.declared.denial.FrameDenial.the-variants.{TooManyLevels, OutOfRange, TooHigh, KitOutOfRange, KitTooHigh}
-use Rattle.frames.specs.Levels.{level-at, level-height}
+use Rattle.frames.specs.Levels.{Sound, level-at, level-height}
 use Rattle.frames.specs.Steps.{step-denial}
 
 -- the first denial, and only then the second
@@ -54,3 +54,8 @@ Denied-when table (OutOfRange k) = (length table ≤ 24) × Good-below table k �
 Denied-when table (TooHigh k) = (length table ≤ 24) × Good-below table k × In-range table k × (500 < level-height table k)
 Denied-when table KitOutOfRange = ⊥
 Denied-when table KitTooHigh = ⊥
+
+-- what each answer says of the table
+abbrev pub Checked-when : List Level → Result (Unit {0}) FrameDenial → Type 0
+Checked-when table (Ok _) = Sound table
+Checked-when table (Err d) = Denied-when table d

@@ -13,7 +13,9 @@ use Rattle.records.specs.declared.level.Level.{Level}
 use Rattle.frames.specs.declared.denial.FrameDenial.{FrameDenial}
 use Rattle.frames.specs.declared.denial.FrameDenial.the-variants.{TooManyLevels}
 use Rattle.frames.specs.declared.topping.Topping.{Topping}
-use Rattle.frames.specs.Levels.{height-of}
+use Rattle.frames.specs.declared.topping.Place.{Place}
+use Rattle.frames.specs.declared.topping.Place.the-variants.{Below, Own, Nowhere}
+use Rattle.frames.specs.Levels.{height-of, level-at}
 use Rattle.frames.specs.OwnStoreys.{own-storeys}
 use Rattle.frames.specs.Steps.{step-denial, stacked}
 
@@ -32,10 +34,23 @@ add-denial n s h l =
     (cond (leb 8 s) (Some (TooManyLevels (n + 1)))
     (step-denial n h l))
 
+-- the denial of one level more on the whole list, which stands over the list below
+abbrev pub denial-over : List Level → List Level → Level → Option FrameDenial
+denial-over below whole l = add-denial (length whole) (own-count below whole) (height-of whole) l
+
 -- the level comes on top; where it is denied the list stays
 abbrev pub Added : List Level → List Level → List Level → Level → Result (Unit {0}) FrameDenial → Type 0
 Added below before after l (Ok _) =
-    (add-denial (length before) (own-count below before) (height-of before) l ≡ None) ×
-    (after ≡ before ++ l ∷ []) × (own-count below after ≡ own-count below before + 1)
-Added below before after l (Err d) =
-    (add-denial (length before) (own-count below before) (height-of before) l ≡ Some d) × (after ≡ before)
+    (denial-over below before l ≡ None) × (after ≡ before ++ l ∷ []) × (own-count below after ≡ own-count below before + 1)
+Added below before after l (Err d) = (denial-over below before l ≡ Some d) × (after ≡ before)
+
+-- the number of own storeys, where no denial comes
+abbrev pub Admitted : List Level → List Level → Level → Result ℕ FrameDenial → Type 0
+Admitted below whole l (Ok own) = (denial-over below whole l ≡ None) × (own ≡ own-count below whole)
+Admitted below whole l (Err d) = denial-over below whole l ≡ Some d
+
+-- where level k of the whole list stands
+abbrev pub Placed : List Level → List Level → List Level → ℕ → Place → Type 0
+Placed below own whole k Below = level-at whole k ≡ level-at below k
+Placed below own whole k (Own j) = level-at whole k ≡ level-at own j
+Placed below own whole k Nowhere = level-at whole k ≡ None

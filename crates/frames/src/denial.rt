@@ -27,11 +27,9 @@ pub impl Denial for FrameDenial as FrameDenialTold {
 
     fn number(&self) -> u32 {
         match *self {
-            FrameDenial::TooManyLevels { level: _ } => 11,
-            FrameDenial::OutOfRange { level: _ } => 12,
-            FrameDenial::KitOutOfRange => 12,
-            FrameDenial::TooHigh { level: _ } => 13,
-            FrameDenial::KitTooHigh => 13,
+            FrameDenial::TooManyLevels { .. } => 11,
+            FrameDenial::OutOfRange { .. } | FrameDenial::KitOutOfRange => 12,
+            FrameDenial::TooHigh { .. } | FrameDenial::KitTooHigh => 13,
         }
     }
 
@@ -40,8 +38,7 @@ pub impl Denial for FrameDenial as FrameDenialTold {
             FrameDenial::TooManyLevels { level } => level,
             FrameDenial::OutOfRange { level } => level,
             FrameDenial::TooHigh { level } => level,
-            FrameDenial::KitOutOfRange => 0,
-            FrameDenial::KitTooHigh => 0,
+            FrameDenial::KitOutOfRange | FrameDenial::KitTooHigh => 0,
         }
     }
 }
@@ -49,6 +46,7 @@ pub impl Denial for FrameDenial as FrameDenialTold {
 /// Why a table was not laid.
 #[derive(Clone, Copy)]
 pub enum NotLaid {
+    /// Something is wrong with the table.
     Denied(FrameDenial),
     /// The table is good, and memory is wanting for it.
     NoMemory,

@@ -24,13 +24,13 @@ pub trait Frame {
     fn level(&self, k: u32) -> Option<Level>
         ensures { λ r. ⌜ r ≡ level-at (list (now (self .entry))) k ⌝ };
 
-    /// The height of the last level over the ground.
+    /// The height of the last level over the ground. The running sum never passes the limit, by the law.
     fn top(&self) -> LevelHeight
         ensures { λ r. ⌜ r ≡ top-of (list (now (self .entry))) ⌝ }
     {
         let mut top = LevelHeight::ground();
-        for k in 1..self.count() + 1 {
-            let Some(level) = self.level(k) else {
+        for below in 0..self.count() {
+            let Some(level) = self.level(below + 1) else {
                 unreachable()
             };
             let Some(higher) = top.above(level.height) else {
@@ -46,8 +46,8 @@ pub trait Frame {
         ensures { λ r. ⌜ r ≡ weight-of (list (now (self .entry))) ⌝ }
     {
         let mut sum = 0;
-        for k in 1..self.count() + 1 {
-            let Some(level) = self.level(k) else {
+        for i in 0..self.count() {
+            let Some(level) = self.level(i + 1) else {
                 unreachable()
             };
             sum += level.weight;

@@ -7,8 +7,8 @@ ghost use Rattle.frames.specs.OwnStoreys.{own-storeys};
 use records::height::StoreyHeight;
 use records::level::Level;
 
-/// The most storeys that a topping may have of its own.
-pub(crate) const MOST_STOREYS: u32 = 8;
+// The most storeys that a topping may have of its own.
+pub(crate) const MOST_STOREYS: usize = 8;
 
 // What stands at a place that was never written.
 const BLANK: Level = Level {
@@ -20,10 +20,10 @@ const BLANK: Level = Level {
     width: 0,
 };
 
-/// The first `count` of the records, from the lowest up.
+// The first `count` of the records, from the lowest up.
 #[derive(Clone, Copy)]
 pub(crate) struct Storeys {
-    records: [Level; 8],
+    records: [Level; MOST_STOREYS],
     count: u32,
 }
 
@@ -32,7 +32,7 @@ impl Storeys {
         ensures { λ r. ⌜ own-storeys r ≡ [] ⌝ }
     {
         Storeys {
-            records: [BLANK; 8],
+            records: [BLANK; MOST_STOREYS],
             count: 0,
         }
     }
@@ -41,7 +41,7 @@ impl Storeys {
     pub(crate) fn levels(&self) -> &[Level]
         ensures { λ r. ⌜ now r ≡ own-storeys (now (self .entry)) ⌝ }
     {
-        let count = self.count.min(MOST_STOREYS);
+        let count = self.count.min(MOST_STOREYS as u32);
         &self.records[0..count as usize]
     }
 

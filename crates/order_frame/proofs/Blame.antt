@@ -31,6 +31,7 @@ use Rattle.order_file.specs.Lines.{kit-line, level-line, Lined-up}
 use Rattle.order_frame.specs.declared.refusal.Refusal.{Refusal}
 use Rattle.order_frame.specs.Blame.{Holds-kit, Holds-level, Holds-record, Blames}
 use Rattle.order_frame.specs.Frames.{kit-levels, first-added-denial, frame-denial}
+use Rattle.order_frame.specs.Outcomes.{framed, judged, outcome}
 use Rattle.order_frame.specs.Refusals.{kit-count, record-line, listed-line, found-line, frame-refusal}
 use Rattle.order_frame.proofs.Reasons.{added-some, denied-reason}
 
@@ -170,6 +171,6 @@ blames f bytes d r is lines few denied told =
       subst (λ (x : Refusal). Holds-record f d (x .line) bytes) (sym told) (holds f bytes d lines (located f d few denied)),
     )
 
--- a file that is not read
-pub no-blame : (e : Fault) (r : Refusal) (bytes : List ℕ) → order-file bytes ≡ Err e → Blames r (order-file bytes) bytes
-no-blame e r bytes is = subst (λ (o : Result Filed Fault). Blames r o bytes) (sym is) tt
+-- what such a file comes to
+pub denied-outcome : (f : Filed) (bytes : List ℕ) (d : FrameDenial) (r : Refusal) → order-file bytes ≡ Ok f → frame-denial (f .kit) (f .levels) ≡ Some d → r ≡ frame-refusal f d → outcome bytes ≡ Err r
+denied-outcome f bytes d r is denied told = ap judged is ∙ ap (framed f) denied ∙ ap Err (sym told)

@@ -1,13 +1,16 @@
 //! From the bytes of an order file to its records and the frame that they describe, or to the refusal.
 ghost use mathlib.Core.Path.{_≡_};
-ghost use lib.ListN.{take};
+ghost use mathlib.Core.List.{List};
+ghost use Prim.Native.Nat.{ℕ};
 ghost use Rattle.std.specs.Of.Vec.{vec-items};
 ghost use Rattle.std.specs.declared.option.Option.the-variants.{Some};
-ghost use Rattle.order_file.specs.File.{filed};
-ghost use Rattle.order_frame.specs.Blame.{Blamed};
+ghost use Rattle.order_file.specs.File.{filed, order-file};
+ghost use Rattle.order_file.specs.Lines.{Lined-up};
+ghost use Rattle.std.specs.declared.result.Result.the-variants.{Ok, Err};
+ghost use lib.ListN.{take};
 ghost use Rattle.order_frame.specs.Frames.{frame-denial};
+ghost use Rattle.order_frame.specs.Blame.{Blames, Blamed};
 ghost use Rattle.order_frame.specs.Outcomes.{outcome, Opened-as};
-ghost use Rattle.order_frame.specs.Refusals.{frame-refusal};
 use denied::record_line;
 use frame::OrderFrame;
 use frames::denial::FrameDenial;
@@ -43,7 +46,8 @@ pub fn open(bytes: &[u8], heap: Global) -> Result<Opened, NotOpened>
 // The refusal of a frame that is denied, on the line of the record that the denial is about.
 fn refusal_of(file: &OrderFile, denial: FrameDenial) -> Refusal
     requires { ⌜ frame-denial (now file .kit) (vec-items (now file .levels)) ≡ Some denial ⌝ }
-    ensures { λ r. ⌜ r ≡ frame-refusal (filed (now (file .entry))) denial ⌝ }
+    ensures told { λ r. ⌜ ((bytes : List ℕ) → order-file bytes ≡ Ok (filed (now (file .entry))) → outcome bytes ≡ Err r) ⌝ }
+    ensures blame { λ r. ⌜ ((bytes : List ℕ) → order-file bytes ≡ Ok (filed (now (file .entry))) → Lined-up (filed (now (file .entry))) bytes → Blames r (order-file bytes) bytes) ⌝ }
 {
     let Some(line) = record_line(file, denial) else {
         unreachable()

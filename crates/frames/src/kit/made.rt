@@ -1,7 +1,9 @@
 //! How a kit is made, and its list.
 ghost use mathlib.Core.Path.{_≡_};
-ghost use Rattle.frames.specs.Kits.{kit-in-range};
-ghost use Rattle.frames.specs.KitFrames.{made-list, Made, Made-alike};
+ghost use Rattle.frames.specs.Kits.{kit-in-range, kit-denial};
+ghost use Rattle.frames.specs.KitFrames.{made-list, part-level, Checked-alike, Made, Made-alike};
+ghost use Rattle.frames.specs.Levels.{level-at};
+ghost use Rattle.frames.specs.Tables.{Checked};
 use crate::denial::FrameDenial;
 use crate::frame::Frame;
 use crate::frame::MOST_LEVELS;
@@ -10,23 +12,57 @@ use records::height::LevelHeight;
 use records::kit_numbers::KitNumbers;
 use records::level::Level;
 
+// Which of the two kinds of level one is.
+#[derive(Clone, Copy)]
+enum Part {
+    Floor,
+    Roof,
+}
+
 impl Kit {
-    /// The frame that the numbers describe. Ranges are checked before the height.
+    /// The frame that the numbers describe.
     pub fn new(numbers: KitNumbers) -> Result<Kit, FrameDenial>
         ensures answer { λ r. ⌜ Made numbers r ⌝ }
         ensures law { λ r. ⌜ Made-alike numbers r ⌝ }
     {
-        if !is_in_range(&numbers) {
-            return Err(FrameDenial::KitOutOfRange);
-        }
-        if numbers.levels * numbers.height.0 > LevelHeight::LIMIT {
-            return Err(FrameDenial::KitTooHigh);
-        }
+        check(&numbers)?;
         Ok(Kit { numbers })
+    }
+
+    // The part that level k is, if there is one.
+    fn part(&self, k: u32) -> Option<Part>
+        ensures { λ r. ⌜ level-at (made-list (now (self .entry))) k ≡ part-level (now (self .entry) .numbers) r ⌝ }
+    {
+        let last = self.numbers.levels;
+        if k == 0 {
+            return None;
+        }
+        if k > last {
+            return None;
+        }
+        if k < last {
+            Some(Part::Floor)
+        } else {
+            Some(Part::Roof)
+        }
     }
 }
 
-// Whether the kit has a frame's count of levels, and both weights and the rest lie within their ranges.
+// The ranges first, then the height.
+fn check(numbers: &KitNumbers) -> Result<(), FrameDenial>
+    ensures answer { λ r. ⌜ Checked (kit-denial (now (numbers .entry))) r ⌝ }
+    ensures law { λ r. ⌜ Checked-alike (now (numbers .entry)) r ⌝ }
+{
+    if !is_in_range(numbers) {
+        return Err(FrameDenial::KitOutOfRange);
+    }
+    if numbers.levels * numbers.height.0 > LevelHeight::LIMIT {
+        return Err(FrameDenial::KitTooHigh);
+    }
+    Ok(())
+}
+
+// Whether the kit has a frame's count of levels, and its floors and its roof lie within their ranges.
 fn is_in_range(numbers: &KitNumbers) -> bool
     ensures { λ r. ⌜ r ≡ kit-in-range (now (numbers .entry)) ⌝ }
 {
@@ -44,17 +80,10 @@ pub impl Frame for Kit as KitFrame {
     }
 
     fn level(&self, k: u32) -> Option<Level> {
-        let last = self.numbers.levels;
-        if k == 0 {
-            return None;
-        }
-        if k > last {
-            return None;
-        }
-        if k < last {
-            Some(self.numbers.floor())
-        } else {
-            Some(self.numbers.roof())
+        match self.part(k) {
+            Some(Part::Floor) => Some(self.numbers.floor()),
+            Some(Part::Roof) => Some(self.numbers.roof()),
+            None => None,
         }
     }
 }

@@ -1,7 +1,7 @@
 //! How a table is laid, and the list of a typed frame.
 ghost use mathlib.Core.Path.{_≡_};
 ghost use mathlib.Core.List.{[]};
-ghost use Rattle.frames.specs.Tables.{Checked, lay-denial};
+ghost use Rattle.frames.specs.Tables.{Checked, Checked-when, lay-denial};
 ghost use Rattle.frames.specs.TypedLists.{typed-list, Laid, Laid-when};
 use crate::denial::FrameDenial;
 use crate::denial::NotLaid;
@@ -40,7 +40,8 @@ impl Typed {
 
 // The count first, then level by level from below.
 fn check(table: &[Level]) -> Result<(), FrameDenial>
-    ensures { λ r. ⌜ Checked (lay-denial (now (table .entry))) r ⌝ }
+    ensures answer { λ r. ⌜ Checked (lay-denial (now (table .entry))) r ⌝ }
+    ensures law { λ r. ⌜ Checked-when (now (table .entry)) r ⌝ }
 {
     if table.len() > MOST_LEVELS as usize {
         return Err(FrameDenial::TooManyLevels {
