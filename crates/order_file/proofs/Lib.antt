@@ -8,3 +8,4 @@ pub mod First
 pub mod Front
 pub mod Standing
 pub mod Laws
+pub mod Begun

@@ -19,7 +19,7 @@ use Rattle.tokens.specs.Text.{joined, line-of}
 use Rattle.tokens.specs.TextLines.{Left, heading-of}
 use Rattle.tokens.specs.declared.fault.Fault.{Fault}
 use Rattle.tokens.specs.declared.fault.Fault.the-variants.{Count}
-use Rattle.tokens.proofs.Cutting.{cut-here, cut-back}
+use Rattle.tokens.proofs.Cutting.{lacks, cut-here, cut-back}
 use Rattle.tokens.proofs.Lays.{Lays, Names, heading, onto-line, line-onto, joined-ends}
 use Rattle.order_file.specs.Render.{count-words, lines-of, section-text}
 use Rattle.order_file.specs.Sections.{Place, next, numbered-line, next-line, to-the-end, laid-out, record-line, record-lines, count-line, section-of-up-to}
@@ -60,7 +60,7 @@ module _ {A X : Type 0} {step : Place → Result (X × Place) Fault} {text : X �
         (b .0, go-on k (a .1) ∙ b .1);
   }
 
--- the same limits, said otherwise
+-- whatever fits is picked
 pub picked-so : {A : Type 0} {picks : A → Type 0} {step : Place → Result (A × Place) Fault} {text : A → List ℕ → List ℕ} {fits : A → Type 0} → ((x : A) → fits x → picks x) → Parses step text fits → Parses-picked picks step text fits
 picked-so so l = record {
   back = λ p x q h. let b = l .back p x q h in (so x (b .2), b .1, b .2);
@@ -122,7 +122,7 @@ module _ {A : Type 0} {f : Left → Option (A × Left)} {words : A → List (Lis
       let q = lines-forth some xs after (o .0) (h .1) in
       (q .0, go-on _ (o .1) ∙ go-on _ (q .1))
 
-  lines-parse : ((x : A) → 1 ≤ length (words x)) → (n : ℕ) → Parses-picked (λ xs. Unit {0} × (length xs ≡ n)) (record-lines f n) (lines-of words) (All fits)
+  pub lines-parse : ((x : A) → 1 ≤ length (words x)) → (n : ℕ) → Parses-picked (λ xs. Unit {0} × (length xs ≡ n)) (record-lines f n) (lines-of words) (All fits)
   lines-parse some n = record {
     back = λ p xs q h. let l = lines-back some n p xs q h in ((tt, l .0), l .1, l .2);
     forth = λ xs after l p h.
@@ -150,6 +150,10 @@ count-parses {name = name} b least most few = record {
   where
     line : Parses (record-line (heading-of name)) (λ n. line-of (count-words name n)) Small
     line = line-parses (heading b) (λ n. omega arith)
+
+-- it is one line
+pub count-ends : {name : List ℕ} → Names name → (n : ℕ) → n ≤ 64 → lacks 10 (joined (count-words name n)) ≡ true
+count-ends {name = name} names n few = joined-ends (count-words name n) (heading names .plain n (omega arith))
 
 -- a section of up to so many records
 pub section-parses : {A : Type 0} {f : Left → Option (A × Left)} {words : A → List (List ℕ)} {fits : A → Type 0} → Lays f words fits → ((x : A) → 1 ≤ length (words x)) → {name : List ℕ} → Names name → (most : ℕ) → most ≤ 64 → Parses (section-of-up-to most f name) (section-text name words) (λ xs. ((0 ≤ length xs) × (length xs ≤ most)) × All fits xs)

@@ -17,13 +17,13 @@ use Rattle.records.specs.declared.kit_numbers.KitNumbers.{KitNumbers}
 use Rattle.tokens.specs.Text.{joined, line-of}
 use Rattle.tokens.specs.TextLines.{Left, then}
 use Rattle.tokens.proofs.Cutting.{lacks, cut-here}
-use Rattle.tokens.proofs.Laws.{number-laws}
 use Rattle.tokens.proofs.Lays.{Lays, Names, joined-ends}
 use Rattle.order_file.specs.File.{Filed, most-levels}
 use Rattle.order_file.specs.Limits.{Fits}
 use Rattle.order_file.specs.Lines.{line-after, line-at, kits, level-line, load-line, card-line, Lined-up}
 use Rattle.order_file.specs.Render.{count-words, lines-of, section-text, kit-words, level-words, load-words, card-words, render}
 use Rattle.order_file.proofs.Layouts.{kit-lays, level-lays, load-lays, card-lays}
+use Rattle.order_file.proofs.Parses.{count-ends}
 use Rattle.order_file.proofs.Whole.{kit-name, levels-name, loads-name, card-name, one-kit, most-few}
 
 here : (ws : List (List ℕ)) (after : List ℕ) → lacks 10 (joined ws) ≡ true → line-after 0 (line-of ws after) ≡ Some (joined ws)
@@ -36,9 +36,6 @@ past ws after n h = ap (λ o. then o (λ p. line-after n (p .1))) (cut-here 10 (
 module _ {A : Type 0} {f : Left → Option (A × Left)} {words : A → List (List ℕ)} {fits : A → Type 0} (lays : Lays f words fits) {name : List ℕ} (names : Names name) where
   ends : (x : A) → fits x → lacks 10 (joined (words x)) ≡ true
   ends x h = joined-ends (words x) (lays .plain x h)
-
-  heading-ends : (n : ℕ) → n ≤ 64 → lacks 10 (joined (count-words name n)) ≡ true
-  heading-ends n few = joined-ends (count-words name n) (names .plain, (number-laws .plain n (omega arith), tt))
 
   past-all : (xs : List A) (after : List ℕ) (n : ℕ) → All fits xs → line-after (length xs + n) (lines-of words xs after) ≡ line-after n after
   past-all [] after n h = ap (λ k. line-after k after) (zero-add n)
@@ -54,11 +51,11 @@ module _ {A : Type 0} {f : Left → Option (A × Left)} {words : A → List (Lis
 
   past-section : (xs : List A) (after : List ℕ) (n : ℕ) → length xs ≤ 64 → All fits xs → line-after (suc (length xs + n)) (section-text name words xs after) ≡ line-after n after
   past-section xs after n few h =
-      past (count-words name (length xs)) (lines-of words xs after) (length xs + n) (heading-ends (length xs) few) ∙ past-all xs after n h
+      past (count-words name (length xs)) (lines-of words xs after) (length xs + n) (count-ends names (length xs) few) ∙ past-all xs after n h
 
   in-section : (xs : List A) (after : List ℕ) (i : ℕ) (d : A) → length xs ≤ 64 → All fits xs → i < length xs → line-after (suc i) (section-text name words xs after) ≡ Some (joined (words (getD xs i d)))
   in-section xs after i d few h less =
-      past (count-words name (length xs)) (lines-of words xs after) i (heading-ends (length xs) few) ∙ among xs after i d less h
+      past (count-words name (length xs)) (lines-of words xs after) i (count-ends names (length xs) few) ∙ among xs after i d less h
 
 module _ (f : Filed) (h : Fits f) where
   abbrev card-text : List ℕ

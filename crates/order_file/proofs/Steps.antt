@@ -4,7 +4,6 @@ use mathlib.Core.Bool.{Bool, true, false, cond}
 use mathlib.Core.List.{List}
 use Prim.Native.Nat.{ℕ}
 use native.Mathlib.Omega.{arith}
-use lib.Chars.{codes}
 use Rattle.std.specs.declared.option.Option.{Option}
 use Rattle.std.specs.declared.result.Result.{Result}
 use Rattle.std.specs.declared.result.Result.the-variants.{Ok, Err}
@@ -13,9 +12,8 @@ use Rattle.records.specs.declared.kit_numbers.KitNumbers.{KitNumbers}
 use Rattle.records.specs.declared.level.Level.{Level}
 use Rattle.records.specs.declared.line.Line.{Line}
 use Rattle.tokens.specs.declared.fault.Fault.{Fault}
-use Rattle.order_file.specs.File.{Filed, kit-section, card-section, most-levels, sections}
-use Rattle.order_file.specs.Records.{read-level, read-load}
-use Rattle.order_file.specs.Sections.{Place, next, section-of-up-to}
+use Rattle.order_file.specs.File.{Filed, kit-section, level-section, load-section, card-section, sections}
+use Rattle.order_file.specs.Sections.{Place, next}
 
 pub err-ok : {A E P : Type 0} {x : A} {e : E} → _≡_ {A = Result A E} (Err e) (Ok x) → P
 err-ok {x = x} {e = e} h = let z : _≡_ {A = ℕ} 0 1 = cc in absurd (let bad : ⊥ = omega arith in bad)
@@ -40,6 +38,11 @@ pub and-next : {A B P : Type 0} (o : Result (A × Place) Fault) (k : A → Place
 and-next (Ok p) k y h go = go (p .0) (p .1) refl h
 and-next (Err e) k y h go = err-ok h
 
+-- the first part is faulty, or the second
+pub or-next : {A B P : Type 0} (o : Result (A × Place) Fault) (k : A → Place → Result B Fault) (e : Fault) → next o k ≡ Err e → (o ≡ Err e → P) → ((x : A) (q : Place) → o ≡ Ok (x, q) → k x q ≡ Err e → P) → P
+or-next (Ok p) k e h first second = second (p .0) (p .1) refl h
+or-next (Err d) k e h first second = first (ap Err (err-same h))
+
 -- all four sections are read
-pub four : (o p q r s : Place) {kit : Option KitNumbers} {levels : List Level} {loads : List Line} {card : Card} → kit-section o ≡ Ok (kit, p) → section-of-up-to (most-levels kit) read-level (codes "LEVELS") p ≡ Ok (levels, q) → section-of-up-to 64 read-load (codes "LOADS") q ≡ Ok (loads, r) → card-section r ≡ Ok (card, s) → sections o ≡ Ok (record { kit = kit; levels = levels; loads = loads; card = card }, s)
+pub four : (o p q r s : Place) {kit : Option KitNumbers} {levels : List Level} {loads : List Line} {card : Card} → kit-section o ≡ Ok (kit, p) → level-section kit p ≡ Ok (levels, q) → load-section q ≡ Ok (loads, r) → card-section r ≡ Ok (card, s) → sections o ≡ Ok (record { kit = kit; levels = levels; loads = loads; card = card }, s)
 four o p q r s a b c d = go-on _ a ∙ go-on _ b ∙ go-on _ c ∙ go-on _ d

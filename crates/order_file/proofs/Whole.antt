@@ -69,10 +69,10 @@ kit-counted (suc zero) h = record {
     some (Some k) after n p f = let o = kit-line .forth k after n tt (f .0) in (o .0, go-on _ (o .1))
 kit-counted (suc (suc n)) h = absurd (let bad : ⊥ = omega arith in bad)
 
-kit-parses : Parses kit-section (λ k. section-text (codes "KIT") kit-words (listOf k)) (λ k. ((0 ≤ length (listOf k)) × (length (listOf k) ≤ 1)) × All Kit-fits (listOf k))
+pub kit-parses : Parses kit-section (λ k. section-text (codes "KIT") kit-words (listOf k)) (λ k. ((0 ≤ length (listOf k)) × (length (listOf k) ≤ 1)) × All Kit-fits (listOf k))
 kit-parses = part (count-parses kit-name 0 1 (omega arith)) (λ k. length (listOf k)) (λ n h. kit-counted n (h .1))
 
-card-parses : Parses card-section (λ x. section-text (codes "CARD") card-words (x ∷ [])) (λ x. ((1 ≤ 1) × (1 ≤ 1)) × Card-fits x)
+pub card-parses : Parses card-section (λ x. section-text (codes "CARD") card-words (x ∷ [])) (λ x. ((1 ≤ 1) × (1 ≤ 1)) × Card-fits x)
 card-parses = part (count-parses card-name 1 1 (omega arith)) (λ x. 1) (λ n h. picked-so (λ x f. (tt, omega (arith, h .0, h .1))) (line-parses card-lays (λ x. omega arith)))
 
 pub most-few : (o : Option KitNumbers) → most-levels o ≤ 64
@@ -84,7 +84,7 @@ whole-file : (f : Filed) → record { kit = f .kit; levels = f .levels; loads = 
 whole-file f = refl
 
 -- the sections, before what follows them
-abbrev text : Filed → List ℕ → List ℕ
+abbrev pub text : Filed → List ℕ → List ℕ
 text f after =
     section-text (codes "KIT") kit-words (listOf (f .kit))
     (section-text (codes "LEVELS") level-words (f .levels)
@@ -95,7 +95,7 @@ text f after =
 abbrev Parts-fit : Filed → Type 0
 Parts-fit f = (((0 ≤ length (listOf (f .kit))) × (length (listOf (f .kit)) ≤ 1)) × All Kit-fits (listOf (f .kit))) × ((((0 ≤ length (f .levels)) × (length (f .levels) ≤ most-levels (f .kit))) × All Level-fits (f .levels)) × ((((0 ≤ length (f .loads)) × (length (f .loads) ≤ 64)) × All Load-fits (f .loads)) × ((((1 ≤ 1) × (1 ≤ 1)) × Card-fits (f .card)) × Unit {0})))
 
-sections-parse : Parses sections text Parts-fit
+pub sections-parse : Parses sections text Parts-fit
 sections-parse =
     part kit-parses (λ f. f .kit) (λ kit a.
     part (section-parses level-lays (λ x. omega arith) levels-name (most-levels kit) (most-few kit)) (λ f. f .levels) (λ levels b.
@@ -103,7 +103,7 @@ sections-parse =
     part card-parses (λ f. f .card) (λ card d.
     done ((((tt, refl), refl), refl), refl) (λ f h. cc (whole-file f))))))
 
-to-fits : (f : Filed) → Parts-fit f → Fits f
+pub to-fits : (f : Filed) → Parts-fit f → Fits f
 to-fits f h = record { kit = h .0 .1; levels = h .1 .0 .1; level-count = h .1 .0 .0 .1; loads = h .1 .1 .0 .1; load-count = h .1 .1 .0 .0 .1; card = h .1 .1 .1 .0 .1 }
 
 pub one-kit : (o : Option KitNumbers) → length (listOf o) ≤ 1

@@ -1,7 +1,8 @@
--- A file is accepted exactly where it is what writing its records makes.
+-- A file is accepted exactly where it is what writing its records makes, and the faulty line of any other is
+-- the first that no such file has after the lines before it.
 use mathlib.Core.Path.{_≡_}
 use mathlib.Core.List.{List}
-use Prim.Native.Nat.{ℕ}
+use Prim.Native.Nat.{ℕ, _-_}
 use Rattle.std.specs.declared.result.Result.{Result}
 use Rattle.std.specs.declared.result.Result.the-variants.{Ok, Err}
 use Rattle.tokens.specs.Faults.{fault-line}
@@ -23,6 +24,8 @@ pub record Refused (e : Fault) (bytes : List ℕ) : Type 0 where
   pub unwritten : (f : Filed) → Fits f → bytes ≡ render f → ⊥
   -- nor any file with the same lines up to the faulty one
   pub faulty : (f : Filed) → Fits f → Shares (fault-line e) bytes (render f) → ⊥
+  -- but some file with the same lines before it
+  pub first : (f : Filed) × Fits f × Shares (fault-line e - 1) bytes (render f)
 
 abbrev pub Exactly : Result OrderFile NotRead → List ℕ → Type 0
 Exactly (Ok f) bytes = Accepted (filed f) bytes

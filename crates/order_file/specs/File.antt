@@ -46,6 +46,14 @@ kit-section p =
     next (count-line 0 1 (codes "KIT") p) (λ n q.
     cond (eqb n 0) (Ok (None, q)) (next (record-line read-kit q) (λ k r. Ok (Some k, r))))
 
+-- LEVELS and so many of them
+abbrev pub level-section : Option KitNumbers → Place → Result (List Level × Place) Fault
+level-section kit p = section-of-up-to (most-levels kit) read-level (codes "LEVELS") p
+
+-- LOADS and so many of them
+abbrev pub load-section : Place → Result (List Line × Place) Fault
+load-section p = section-of-up-to most-loads read-load (codes "LOADS") p
+
 -- CARD 1 and the card's record
 abbrev pub card-section : Place → Result (Card × Place) Fault
 card-section p = next (count-line 1 1 (codes "CARD") p) (λ n q. record-line read-card q)
@@ -54,8 +62,8 @@ card-section p = next (count-line 1 1 (codes "CARD") p) (λ n q. record-line rea
 abbrev pub sections : Place → Result (Filed × Place) Fault
 sections o =
     next (kit-section o) (λ kit p.
-    next (section-of-up-to (most-levels kit) read-level (codes "LEVELS") p) (λ levels q.
-    next (section-of-up-to most-loads read-load (codes "LOADS") q) (λ loads r.
+    next (level-section kit p) (λ levels q.
+    next (load-section q) (λ loads r.
     next (card-section r) (λ card s.
     Ok (record { kit = kit; levels = levels; loads = loads; card = card }, s)))))
 

@@ -1,7 +1,6 @@
 //! Why no order file was read.
 ghost use mathlib.Core.Path.{_≡_};
 ghost use Rattle.order_file.specs.declared.not_read.NotRead.the-variants.{Faulty, NoMemory};
-use std::alloc::AllocError;
 use std::alloc::Refused;
 use tokens::fault::Fault;
 
@@ -19,14 +18,6 @@ pub impl From<Fault> for NotRead as NotReadFromFault {
 
     fn from(e: Fault) -> NotRead {
         NotRead::Faulty(e)
-    }
-}
-
-pub impl From<AllocError> for NotRead as NotReadFromAlloc {
-    ghost converts = { λ _ r. r ≡ NoMemory };
-
-    fn from(_e: AllocError) -> NotRead {
-        NotRead::NoMemory
     }
 }
 

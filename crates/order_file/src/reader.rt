@@ -3,7 +3,7 @@ ghost use mathlib.Core.Path.{_≡_};
 ghost use Prim.Native.Nat.{_+_, _^_, _<_, _≤_};
 ghost use Rattle.std.specs.Of.Vec.{vec-items, vec-len};
 ghost use Rattle.std.specs.Vec.{made};
-ghost use Rattle.order_file.specs.File.{kit-section, card-section, most-levels, sections, order-file, filed, Read-as};
+ghost use Rattle.order_file.specs.File.{kit-section, level-section, load-section, card-section, sections, order-file, filed, Read-as};
 ghost use Rattle.order_file.specs.Reading.{place, Lined, Read, Reads};
 ghost use Rattle.order_file.specs.Sections.{next-line, record-line, record-lines, count-line, section-of-up-to};
 use crate::contents::OrderFile;
@@ -17,6 +17,8 @@ use crate::record::LoadRecord;
 use crate::record::Record;
 use records::card::Card;
 use records::kit_numbers::KitNumbers;
+use records::level::Level;
+use records::line::Line;
 use std::alloc::Global;
 use tokens::fault::Fault;
 use tokens::text_line::TextLine;
@@ -134,6 +136,28 @@ impl<'a> Reader<'a> {
         }
     }
 
+    // The levels that the file lists, on top of a kit or as the whole frame.
+    fn levels(&mut self, kit: Option<KitNumbers>, heap: Global) -> Result<Vec<Level>, NotRead>
+        requires { ⌜ now self .line < 2 ^ 20 ⌝ }
+        ensures read { λ r. ⌜ Reads vec-items r (place (now (self .exit))) (level-section kit (place (now (self .entry)))) ⌝ }
+        ensures line { λ r. ⌜ made r (λ v. (now (self .exit) .line ≤ now (self .entry) .line + 25) × (vec-len v ≤ 24)) ⌝ }
+    {
+        let most = match kit {
+            Some(_) => MOST_STOREYS,
+            None => MOST_LEVELS,
+        };
+        self.section(b"LEVELS", most, heap)
+    }
+
+    // The loads' section.
+    fn loads(&mut self, heap: Global) -> Result<Vec<Line>, NotRead>
+        requires { ⌜ now self .line < 2 ^ 20 ⌝ }
+        ensures read { λ r. ⌜ Reads vec-items r (place (now (self .exit))) (load-section (place (now (self .entry)))) ⌝ }
+        ensures line { λ r. ⌜ made r (λ v. (now (self .exit) .line ≤ now (self .entry) .line + 65) × (vec-len v ≤ 64)) ⌝ }
+    {
+        self.section(b"LOADS", MOST_LOADS, heap)
+    }
+
     // The card's section.
     fn card(&mut self) -> Result<Card, Fault>
         requires { ⌜ now self .line < 2 ^ 30 ⌝ }
@@ -145,12 +169,12 @@ impl<'a> Reader<'a> {
 
     // The four sections in their order.
     fn sections(&mut self, heap: Global) -> Result<OrderFile, NotRead>
-        requires { ⌜ now self .line < 2 ^ 20 ⌝ }
+        requires { ⌜ now self .line < 2 ^ 10 ⌝ }
         ensures { λ r. ⌜ Reads filed r (place (now (self .exit))) (sections (place (now (self .entry)))) ⌝ }
     {
         let kit = self.kit()?;
-        let levels = self.section(b"LEVELS", levels_at_most(kit), heap)?;
-        let loads = self.section(b"LOADS", MOST_LOADS, heap)?;
+        let levels = self.levels(kit, heap)?;
+        let loads = self.loads(heap)?;
         let card = self.card()?;
         Ok(OrderFile {
             kit,
@@ -158,17 +182,6 @@ impl<'a> Reader<'a> {
             loads,
             card,
         })
-    }
-}
-
-// How many levels a file with this kit, or with none, may list.
-fn levels_at_most(kit: Option<KitNumbers>) -> u32
-    ensures value { λ r. ⌜ r ≡ most-levels kit ⌝ }
-    ensures bound { λ r. ⌜ r ≤ 24 ⌝ }
-{
-    match kit {
-        Some(_) => MOST_STOREYS,
-        None => MOST_LEVELS,
     }
 }
 

@@ -42,7 +42,7 @@ onward-back n m (b ∷ bs) h =
     (λ no. let z : None ≡ Some m = sym (cond-false (asciiDigit b) (onward (n * 10 + (b - 48)) bs) None no) ∙ h in let z2 : _≡_ {A = ℕ} 0 1 = cc in absurd (let bad : ⊥ = omega arith in bad))
     (cases-bool (asciiDigit b))
 
-digit-in : (b : ℕ) → asciiDigit b ≡ true → (48 ≤ b) × (b ≤ 57)
+pub digit-in : (b : ℕ) → asciiDigit b ≡ true → (48 ≤ b) × (b ≤ 57)
 digit-in b h = let p = and-parts (leb 48 b) (leb b 57) h in (leb-true 48 b (p .0), leb-true b 57 (p .1))
 
 numbered : (bs : List ℕ) → allDigits bs ≡ true → 0 < length bs → length bs ≤ 9 → (getD bs 0 0 ≡ 48 → length bs ≡ 1) → number-of bs ≡ Some (readOn 0 bs)

@@ -33,7 +33,7 @@ use Rattle.tokens.specs.Numbers.{Small, number-of}
 use Rattle.tokens.specs.Said.{Said, section, numeral, minus, mark, told}
 use Rattle.tokens.specs.Written.{height-text, period-text, soil-text, group-text, walls-text}
 use Rattle.tokens.proofs.Cutting.{lacks}
-use Rattle.tokens.proofs.Decimals.{own, forth, back}
+use Rattle.tokens.proofs.Decimals.{own, digit-in, forth, back}
 use Rattle.tokens.proofs.Options.{none-some, some-same, mapped-back, cond-some}
 use Rattle.tokens.proofs.Told.{negated-number}
 use Rattle.tokens.proofs.Words.{Plain, spelled}
@@ -45,9 +45,6 @@ pub record Laws {X : Type 0} (m : Said → Option X) (text : X → List ℕ) (fi
   pub plain : (x : X) → fits x → Plain (text x)
 
 -- digits
-
-digit-in : (b : ℕ) → asciiDigit b ≡ true → (48 ≤ b) × (b ≤ 57)
-digit-in b h = let p = and-parts (leb 48 b) (leb b 57) h in (leb-true 48 b (p .0), leb-true b 57 (p .1))
 
 digits-lack : (c : ℕ) (bs : List ℕ) → c < 48 → allDigits bs ≡ true → lacks c bs ≡ true
 digits-lack c [] less h = refl

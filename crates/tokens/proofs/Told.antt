@@ -21,9 +21,7 @@ pub told-minus : (bs : List ℕ) → 0 < length bs → getD bs 0 0 ≡ 45 → mi
 told-minus [] h e = absurd (omega arith)
 told-minus (b ∷ bs) h e = ap minus (take-rest (b ∷ bs) 1) ∙ sym (cond-true (eqb b 45) _ _ (eq-eqb b 45 e))
 
+-- after a minus
 pub negated-number : (bs : List ℕ) → 0 < length bs → 49 ≤ getD bs 0 0 → getD bs 0 0 ≤ 57 → negated bs ≡ mapped (λ n. negℤ (pos n)) (number-of bs)
 negated-number [] h low high = absurd (omega arith)
 negated-number (b ∷ bs) h low high = cond-true (within 49 57 b) _ _ (within-yes 49 57 b low high)
-
-pub negated-some : (bs : List ℕ) (n : ℕ) (z : ℤ) → 0 < length bs → 49 ≤ getD bs 0 0 → getD bs 0 0 ≤ 57 → Some n ≡ number-of bs → z ≡ negℤ (pos n) → Some z ≡ negated bs
-negated-some bs n z h low high e is = ap Some is ∙ ap (mapped (λ k. negℤ (pos k))) e ∙ sym (negated-number bs h low high)

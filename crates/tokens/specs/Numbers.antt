@@ -1,5 +1,5 @@
 -- How a number is laid out.
-use mathlib.Core.Bool.{cond}
+use mathlib.Core.Bool.{Bool, false, cond}
 use mathlib.Core.List.{List, [], _∷_}
 use Prim.Native.Nat.{ℕ, _+_, _-_, _*_, _^_, _<_}
 use lib.Dec.{leb, eqb}
@@ -27,7 +27,11 @@ number-of (b ∷ bs) =
     (cond (eqb (length bs) 0) (Some 0) None)
     (cond (within 49 57 b) (cond (leb (length bs) 8) (onward (b - 48) bs) None) None)
 
+-- a digit 1 to 9 comes first
+abbrev pub led : List ℕ → Bool
+led [] = false
+led (b ∷ bs) = within 49 57 b
+
 -- what follows a minus is a number that begins with a digit 1 to 9
 abbrev pub negated : List ℕ → Option ℤ
-negated [] = None
-negated (b ∷ bs) = cond (within 49 57 b) (mapped (λ n. negℤ (pos n)) (number-of (b ∷ bs))) None
+negated bs = cond (led bs) (mapped (λ n. negℤ (pos n)) (number-of bs)) None

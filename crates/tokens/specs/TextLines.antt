@@ -52,7 +52,7 @@ abbrev pub left : TextLine → Left
 left l = mapped now (l .rest)
 
 abbrev pub numbered : TextLine → ℕ
-numbered l = l .number
+numbered l = l .line
 
 -- the first line of a text, all of it left, and what stands after its byte 10
 abbrev pub first-line : List ℕ → Option (Left × List ℕ)

@@ -21,6 +21,9 @@ impl Fault {
 
     const SURPLUS: u32 = 43;
 
+    // A fault is told by its line, and has no place.
+    const NO_PLACE: u32 = 0;
+
     /// The faulty line's number.
     pub fn line(&self) -> u32
         ensures { λ r. ⌜ r ≡ fault-line (now (self .entry)) ⌝ }
@@ -46,8 +49,7 @@ pub impl Denial for Fault as FaultTold {
         }
     }
 
-    // A fault is told by its line, and has no place.
     fn place(&self) -> u32 {
-        0
+        Fault::NO_PLACE
     }
 }

@@ -5,7 +5,7 @@ ghost use lib.IntN.{pos};
 ghost use lib.ListN.{length};
 ghost use Rattle.std.specs.Options.{mapped};
 ghost use Rattle.std.specs.Slices.{found};
-ghost use Rattle.tokens.specs.Numbers.{onward, number-of, negated};
+ghost use Rattle.tokens.specs.Numbers.{onward, number-of, led, negated};
 
 // How many digits may follow the first, so that every number fits 30 bits.
 const MORE_DIGITS: usize = 8;
@@ -50,17 +50,22 @@ pub(crate) fn positive(bytes: &[u8]) -> Option<i32>
     }
 }
 
+// Whether a digit 1 to 9 comes first.
+fn leads(bytes: &[u8]) -> bool
+    ensures { λ r. ⌜ r ≡ led (now (bytes .entry)) ⌝ }
+{
+    match bytes {
+        [b'1'..=b'9', ..] => true,
+        _ => false,
+    }
+}
+
 // A load whose minus sign stands before `after`. There is no minus zero.
 pub(crate) fn negative(after: &[u8]) -> Option<i32>
     ensures { λ r. ⌜ r ≡ negated (now (after .entry)) ⌝ }
 {
-    match after {
-        [b'1'..=b'9', ..] => {
-            match number(after) {
-                Some(n) => Some(-(n as i32)),
-                None => None,
-            }
-        }
+    match number(after) {
+        Some(n) if leads(after) => Some(-(n as i32)),
         _ => None,
     }
 }

@@ -16,7 +16,7 @@ use crate::token::token_of;
 /// What is left of a line of a text: words with one space between them.
 #[derive(Clone, Copy)]
 pub struct TextLine<'a> {
-    number: u32,
+    line: u32,
     // Nothing once the last word is taken; an empty line still has one word, an empty one.
     rest: Option<&'a [u8]>,
 }
@@ -30,11 +30,11 @@ impl<'a> TextLine<'a> {
     {
         match cut(b'\n', text) {
             Some((bytes, after)) => {
-                let line = TextLine {
-                    number,
+                let words = TextLine {
+                    line: number,
                     rest: Some(bytes),
                 };
-                Some((line, after))
+                Some((words, after))
             }
             None => None,
         }
@@ -44,7 +44,7 @@ impl<'a> TextLine<'a> {
     pub fn number(&self) -> u32
         ensures { λ r. ⌜ r ≡ numbered (now (self .entry)) ⌝ }
     {
-        self.number
+        self.line
     }
 
     /// Whether no word is left.
@@ -63,16 +63,15 @@ impl<'a> TextLine<'a> {
         ensures took { λ r. ⌜ Took said r (left (now (self .exit))) (numbered (now (self .entry))) (next-word (left (now (self .entry)))) ⌝ }
         ensures same { λ r. ⌜ numbered (now (self .exit)) ≡ numbered (now (self .entry)) ⌝ }
     {
+        let line = self.number();
         match self.rest {
             Some(bytes) => {
                 let (word, after) = split_word(bytes);
                 self.rest = after;
-                Ok(Word {
-                    line: self.number,
-                    token: token_of(word),
-                })
+                let token = token_of(word);
+                Ok(Word { line, token })
             }
-            None => Err(Fault::Layout { line: self.number }),
+            None => Err(Fault::Layout { line }),
         }
     }
 

@@ -19,6 +19,7 @@ pub enum Token<'a> {
 /// A word of a text, told with its line.
 #[derive(Clone, Copy)]
 pub struct Word<'a> {
+    /// The number of its line in the text.
     pub line: u32,
     pub token: Token<'a>,
 }
