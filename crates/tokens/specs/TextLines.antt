@@ -31,6 +31,11 @@ abbrev pub next-word : Left → Option (Said × Left)
 next-word None = None
 next-word (Some bs) = Some (told (first-word (cut-at 32 bs) bs), later-words (cut-at 32 bs))
 
+-- what the next word leaves of the line, whatever it says
+abbrev pub after-word : Left → Left
+after-word None = None
+after-word (Some bs) = later-words (cut-at 32 bs)
+
 -- the next word, read as a field
 abbrev pub next-field : {A : Type 0} → (Said → Option A) → Left → Option (A × Left)
 next-field m ws = then (next-word ws) (λ w. then (m (w .0)) (λ x. Some (x, w .1)))
@@ -38,6 +43,11 @@ next-field m ws = then (next-word ws) (λ w. then (m (w .0)) (λ x. Some (x, w .
 -- a section word and its count
 abbrev pub heading-of : List ℕ → Left → Option (ℕ × Left)
 heading-of name ws = then (next-word ws) (λ w. cond (as-section name (w .0)) (next-field as-number (w .1)) None)
+
+-- what a heading leaves of the line: its second word is taken only after the section word
+abbrev pub after-heading : List ℕ → Left → Left
+after-heading name None = None
+after-heading name (Some bs) = cond (as-section name (told (first-word (cut-at 32 bs) bs))) (after-word (later-words (cut-at 32 bs))) (later-words (cut-at 32 bs))
 
 -- a part of line n was read, with what is left of the line, or the line is not laid out so
 abbrev pub Took : {V A : Type 0} → (V → A) → Result V Fault → Left → ℕ → Option (A × Left) → Type 0

@@ -4,7 +4,7 @@ ghost use Rattle.std.specs.Options.{mapped};
 ghost use Rattle.std.specs.Slices.{found};
 ghost use Rattle.std.specs.Vec.{made};
 ghost use Rattle.tokens.specs.Cuts.{cut-at, first-word, later-words};
-ghost use Rattle.tokens.specs.TextLines.{Took, first-line, next-word, next-field, heading-of, said, left, numbered, none-left};
+ghost use Rattle.tokens.specs.TextLines.{Took, after-word, after-heading, first-line, next-word, next-field, heading-of, said, left, numbered, none-left};
 use crate::cut::cut;
 use crate::fault::Fault;
 use crate::field::Field;
@@ -61,6 +61,7 @@ impl<'a> TextLine<'a> {
     fn word(&mut self) -> Result<Word<'a>, Fault>
         ensures line { λ r. ⌜ made r (λ w. w .line ≡ numbered (now (self .entry))) ⌝ }
         ensures took { λ r. ⌜ Took said r (left (now (self .exit))) (numbered (now (self .entry))) (next-word (left (now (self .entry)))) ⌝ }
+        ensures rest { λ r. ⌜ left (now (self .exit)) ≡ after-word (left (now (self .entry))) ⌝ }
         ensures same { λ r. ⌜ numbered (now (self .exit)) ≡ numbered (now (self .entry)) ⌝ }
     {
         let line = self.number();
@@ -78,6 +79,7 @@ impl<'a> TextLine<'a> {
     /// The next word, read as a field; a fault of layout where it is none.
     pub fn field<F: Field>(&mut self) -> Result<F, Fault>
         ensures took { λ r. ⌜ Took (λ x. x) r (left (now (self .exit))) (numbered (now (self .entry))) (next-field meaning (left (now (self .entry)))) ⌝ }
+        ensures rest { λ r. ⌜ left (now (self .exit)) ≡ after-word (left (now (self .entry))) ⌝ }
         ensures same { λ r. ⌜ numbered (now (self .exit)) ≡ numbered (now (self .entry)) ⌝ }
     {
         let word = self.word()?;
@@ -91,6 +93,7 @@ impl<'a> TextLine<'a> {
     /// next.
     pub fn heading(&mut self, name: &[u8]) -> Result<u32, Fault>
         ensures took { λ r. ⌜ Took (λ x. x) r (left (now (self .exit))) (numbered (now (self .entry))) (heading-of (now (name .entry)) (left (now (self .entry)))) ⌝ }
+        ensures rest { λ r. ⌜ left (now (self .exit)) ≡ after-heading (now (name .entry)) (left (now (self .entry))) ⌝ }
         ensures same { λ r. ⌜ numbered (now (self .exit)) ≡ numbered (now (self .entry)) ⌝ }
     {
         let word = self.word()?;
