@@ -56,8 +56,8 @@ fn with_level_lines<F: Frame>(text: String, frame: &F) -> Result<String, AllocEr
 {
     let mut text = text;
     let mut height = LevelHeight::ground();
-    let end = frame.count() + 1;
-    for k in 1..end {
+    for below in 0..frame.count() {
+        let k = below + 1;
         let Some(level) = frame.level(k) else {
             unreachable()
         };

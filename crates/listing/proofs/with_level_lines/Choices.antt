@@ -1,14 +1,13 @@
 use mathlib.Core.Path.{_≡_}
 use mathlib.Core.List.{_++_}
-use Prim.Native.Nat.{_-_, _≤_}
+use Prim.Native.Nat.{_≤_}
 use lib.ListN.{length}
 use Rattle.std.specs.Of.String.{string-bytes}
 use Rattle.frames.specs.Levels.{level-height}
 use Rattle.listing.specs.Listings.{lines-to}
 use Rattle.listing.proofs.with_level_lines.Given as given
 
-abbrev pub Inv-loop-k : given.InvT-loop-k
-Inv-loop-k g l =
-    (l .height .0 ≡ level-height (g .F·Frame .list (l .frame)) (l .k - 1)) ×
-    (l .k - 1 ≤ length (g .F·Frame .list (l .frame))) ×
-    (string-bytes (l .text) ≡ string-bytes (l .entry .text) ++ lines-to (g .F·Frame .list (l .frame)) (l .k - 1))
+abbrev pub Inv-loop-below : given.InvT-loop-below
+Inv-loop-below g l =
+    (l .height .0 ≡ level-height (g .F·Frame .list (l .frame)) (l .below)) ×
+    (string-bytes (l .text) ≡ string-bytes (l .entry .text) ++ lines-to (g .F·Frame .list (l .frame)) (l .below))
