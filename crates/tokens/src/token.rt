@@ -34,10 +34,15 @@ pub(crate) fn is_word(word: &[u8], text: &[u8]) -> bool
 fn names_section(word: &[u8]) -> bool
     ensures { λ r. ⌜ r ≡ is-section (now (word .entry)) ⌝ }
 {
-    is_word(word, b"KIT")
-        | is_word(word, b"LEVELS")
-        | is_word(word, b"LOADS")
-        | is_word(word, b"CARD")
+    let [first, rest @ ..] = word else {
+        return false;
+    };
+    match *first {
+        b'K' => is_word(rest, b"IT"),
+        b'L' => is_word(rest, b"EVELS") | is_word(rest, b"OADS"),
+        b'C' => is_word(rest, b"ARD"),
+        _ => false,
+    }
 }
 
 // What a word is.
