@@ -7,7 +7,7 @@ use std::alloc::Global;
 
 pub mod laid;
 
-/// Levels that were given one by one, kept in memory of `heap`.
+/// The levels of the table that was laid last, kept in memory of `heap`.
 #[derive(Drop)]
 pub struct Typed {
     levels: Vec<Level>,

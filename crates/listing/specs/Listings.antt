@@ -22,17 +22,17 @@ abbrev pub heading : List Level → List ℕ
 heading ls = line-of (codes "LEVELS" ∷ decimal (length ls) ∷ decimal (weight-of ls) ∷ decimal (height-of ls) ∷ []) []
 
 -- level k, its weight, its height H over the ground
-abbrev pub level-words : ℕ → Level → ℕ → List (List ℕ)
-level-words k l h = decimal k ∷ decimal (l .weight) ∷ decimal h ∷ []
+abbrev pub row-words : ℕ → Level → ℕ → List (List ℕ)
+row-words k l h = decimal k ∷ decimal (l .weight) ∷ decimal h ∷ []
 
-abbrev pub level-line : ℕ → ℕ → Option Level → List ℕ
-level-line k h None = []
-level-line k h (Some l) = line-of (level-words k l h) []
+abbrev pub row-line : ℕ → ℕ → Option Level → List ℕ
+row-line k h None = []
+row-line k h (Some l) = line-of (row-words k l h) []
 
 -- the lines of levels 1 to k
 abbrev pub lines-to : List Level → ℕ → List ℕ
 lines-to ls zero = []
-lines-to ls (suc k) = lines-to ls k ++ level-line (suc k) (level-height ls (suc k)) (level-at ls (suc k))
+lines-to ls (suc k) = lines-to ls k ++ row-line (suc k) (level-height ls (suc k)) (level-at ls (suc k))
 
 -- the heading, and a line a level, from below
 abbrev pub levels-text : List Level → List ℕ

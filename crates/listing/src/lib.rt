@@ -5,7 +5,7 @@ ghost use lib.ListN.{length, take};
 ghost use Rattle.std.specs.Of.String.{string-bytes};
 ghost use Rattle.std.specs.Vec.{made};
 ghost use Rattle.tokens.specs.Text.{line-of};
-ghost use Rattle.listing.specs.Listings.{heading, level-words, lines-to, levels-text, listing-text};
+ghost use Rattle.listing.specs.Listings.{heading, row-words, lines-to, levels-text, listing-text};
 use frames::frame::Frame;
 use order_frame::frame::OrderFrameFrame;
 use order_frame::open;
@@ -77,7 +77,7 @@ fn with_level_line(
     level: &Level,
     height: LevelHeight,
 ) -> Result<String, AllocError>
-    ensures { λ r. ⌜ made r (λ t. string-bytes t ≡ string-bytes text ++ line-of (level-words k (now (level .entry)) (height .0)) []) ⌝ }
+    ensures { λ r. ⌜ made r (λ t. string-bytes t ≡ string-bytes text ++ line-of (row-words k (now (level .entry)) (height .0)) []) ⌝ }
 {
     let words = [
         Word::Number(k as i64),

@@ -36,7 +36,7 @@ use Rattle.tokens.proofs.Cutting.{lacks, cut-here}
 use Rattle.tokens.proofs.Lays.{Lays, Names, joined-ends}
 use Rattle.order_file.specs.File.{Filed, kit-section, level-section, load-section, card-section, most-levels, sections, and-no-more, order-file}
 use Rattle.order_file.specs.First.{Shares}
-use Rattle.order_file.specs.Limits.{Kit-fits, Level-fits, Load-fits, Card-fits, Fits}
+use Rattle.order_file.specs.Limits.{Kit-short, Level-short, Load-short, Card-short, Fits}
 use Rattle.order_file.specs.Records.{read-kit, read-card}
 use Rattle.order_file.specs.Render.{kit-words, level-words, load-words, card-words, count-words, lines-of, section-text, render}
 use Rattle.order_file.specs.Sections.{Place, next, numbered-line, to-the-end, laid-out, record-line, record-lines, count-line, section-of-up-to}
@@ -193,19 +193,19 @@ no-card = record { soil = I; group = B; c = 0; a0 = 0; ta = 0; tb = 0; period = 
 small : Small 0
 small = omega arith
 
-no-kit-fits : Kit-fits no-kit
+no-kit-fits : Kit-short no-kit
 unfolding no-kit
 no-kit-fits = (small, (small, (small, (small, (small, (small, (small, (small, tt))))))))
 
-no-level-fits : Level-fits no-level
+no-level-fits : Level-short no-level
 unfolding no-level
 no-level-fits = (small, (small, (small, (small, (small, (small, tt))))))
 
-no-load-fits : Load-fits no-load
+no-load-fits : Load-short no-load
 unfolding no-load
 no-load-fits = (small, (small, tt))
 
-no-card-fits : Card-fits no-card
+no-card-fits : Card-short no-card
 unfolding no-card
 no-card-fits = (small, (small, (small, (small, (small, (small, (small, (small, tt))))))))
 
@@ -226,7 +226,7 @@ kit-on p k q h =
         and-next (record-line read-kit r) _ _ j (λ x s e i.
         subst (λ (t : Option KitNumbers × Place). t .1 .1 ≡ r .1 + length (listOf (t .0))) (ok-same i) (line-on read-kit r x s e))
 
-kit-begun : (p : Place) (e : Fault) → kit-section p ≡ Err e → (k : Option KitNumbers) × (p .1 ≤ fault-line e) × All Kit-fits (listOf k) × ((after : List ℕ) → Shares (fault-line e - p .1) (p .0) (section-text (codes "KIT") kit-words (listOf k) after))
+kit-begun : (p : Place) (e : Fault) → kit-section p ≡ Err e → (k : Option KitNumbers) × (p .1 ≤ fault-line e) × All Kit-short (listOf k) × ((after : List ℕ) → Shares (fault-line e - p .1) (p .0) (section-text (codes "KIT") kit-words (listOf k) after))
 kit-begun p e h =
     or-next (count-line 0 1 (codes "KIT") p) _ e h
     (λ bad.
@@ -234,7 +234,7 @@ kit-begun p e h =
     (None, omega arith, tt, λ after. subst (λ i. Shares i (p .0) (section-text (codes "KIT") kit-words [] after)) (let z : 0 ≡ fault-line e - p .1 = omega arith in z) tt))
     (λ n q good k. one n q good (cases-bool (eqb n 0)) k)
   where
-    one : (n : ℕ) (q : Place) → count-line 0 1 (codes "KIT") p ≡ Ok (n, q) → (eqb n 0 ≡ true) ⊎ (eqb n 0 ≡ false) → kit-if (eqb n 0) q ≡ Err e → (k : Option KitNumbers) × (p .1 ≤ fault-line e) × All Kit-fits (listOf k) × ((after : List ℕ) → Shares (fault-line e - p .1) (p .0) (section-text (codes "KIT") kit-words (listOf k) after))
+    one : (n : ℕ) (q : Place) → count-line 0 1 (codes "KIT") p ≡ Ok (n, q) → (eqb n 0 ≡ true) ⊎ (eqb n 0 ≡ false) → kit-if (eqb n 0) q ≡ Err e → (k : Option KitNumbers) × (p .1 ≤ fault-line e) × All Kit-short (listOf k) × ((after : List ℕ) → Shares (fault-line e - p .1) (p .0) (section-text (codes "KIT") kit-words (listOf k) after))
     one n q good (inl none) j = err-ok (sym (sym (cond-true (eqb n 0) _ _ none) ∙ j))
     one n q good (inr some) j =
         or-next (record-line read-kit q) _ e (sym (cond-false (eqb n 0) _ _ some) ∙ j)
@@ -278,7 +278,7 @@ card-begun p e h =
 
 -- the file
 
-past-kit : (k : Option KitNumbers) (i : ℕ) (r s : List ℕ) → All Kit-fits (listOf k) → Shares i r s → Shares (suc (length (listOf k) + i)) (section-text (codes "KIT") kit-words (listOf k) r) (section-text (codes "KIT") kit-words (listOf k) s)
+past-kit : (k : Option KitNumbers) (i : ℕ) (r s : List ℕ) → All Kit-short (listOf k) → Shares i r s → Shares (suc (length (listOf k) + i)) (section-text (codes "KIT") kit-words (listOf k) r) (section-text (codes "KIT") kit-words (listOf k) s)
 past-kit k i r s h shared = past-section kit-lays (λ x. omega arith) kit-name (listOf k) i r s (omega (arith, one-kit k)) h shared
 
 -- how many lines a file has

@@ -9,7 +9,7 @@ use Rattle.records.specs.declared.level.Level.{Level}
 use Rattle.records.specs.declared.line.Line.{Line}
 use Rattle.tokens.proofs.Laws.{number-laws, height-laws, load-laws, period-laws, soil-laws, group-laws, walls-laws}
 use Rattle.tokens.proofs.Lays.{Lays, complete, field, fits-so}
-use Rattle.order_file.specs.Limits.{Kit-fits, Level-fits, Load-fits, Card-fits}
+use Rattle.order_file.specs.Limits.{Kit-short, Level-short, Load-short, Card-short}
 use Rattle.order_file.specs.Records.{read-kit, read-level, read-load, read-card}
 use Rattle.order_file.specs.Render.{kit-words, level-words, load-words, card-words}
 
@@ -17,7 +17,7 @@ use Rattle.order_file.specs.Render.{kit-words, level-words, load-words, card-w
 whole-kit : (x : KitNumbers) → record { levels = x .levels; «floor_weight» = x .«floor_weight»; «roof_weight» = x .«roof_weight»; height = x .height; stiffness = x .stiffness; «mass_centre» = x .«mass_centre»; «torsion_centre» = x .«torsion_centre»; width = x .width } ≡ x
 whole-kit x = refl
 
-pub kit-lays : Lays read-kit kit-words Kit-fits
+pub kit-lays : Lays read-kit kit-words Kit-short
 kit-lays =
     field number-laws (λ x. x .levels) (λ levels.
     field number-laws (λ x. x .«floor_weight») (λ floor-weight.
@@ -32,7 +32,7 @@ kit-lays =
 whole-level : (x : Level) → record { weight = x .weight; height = x .height; stiffness = x .stiffness; «mass_centre» = x .«mass_centre»; «torsion_centre» = x .«torsion_centre»; width = x .width } ≡ x
 whole-level x = refl
 
-pub level-lays : Lays read-level level-words Level-fits
+pub level-lays : Lays read-level level-words Level-short
 level-lays =
     field number-laws (λ x. x .weight) (λ weight.
     field height-laws (λ x. x .height) (λ height.
@@ -45,7 +45,7 @@ level-lays =
 whole-load : (x : Line) → record { level = x .level; load = x .load } ≡ x
 whole-load x = refl
 
-pub load-lays : Lays read-load load-words Load-fits
+pub load-lays : Lays read-load load-words Load-short
 load-lays =
     field number-laws (λ x. x .level) (λ level.
     field load-laws (λ x. x .load) (λ load.
@@ -54,7 +54,7 @@ load-lays =
 whole-card : (x : Card) → record { soil = x .soil; group = x .group; c = x .c; a0 = x .a0; ta = x .ta; tb = x .tb; period = x .period; q = x .q; correction = x .correction; walls = x .walls; «load_factor» = x .«load_factor»; gap = x .gap } ≡ x
 whole-card x = refl
 
-pub card-lays : Lays read-card card-words Card-fits
+pub card-lays : Lays read-card card-words Card-short
 card-lays = fits-so
     (λ x h. let n = h .1 .1 in (n .0, (n .1 .0, (n .1 .1 .0, (n .1 .1 .1 .0, (n .1 .1 .1 .1 .1 .0, (n .1 .1 .1 .1 .1 .1 .0, (n .1 .1 .1 .1 .1 .1 .1 .1 .0, (n .1 .1 .1 .1 .1 .1 .1 .1 .1 .0, n .1 .1 .1 .1 .0)))))))))
     (λ x h. (tt, (tt, (h .0, (h .1 .0, (h .1 .1 .0, (h .1 .1 .1 .0, (h .1 .1 .1 .1 .1 .1 .1 .1, (h .1 .1 .1 .1 .0, (h .1 .1 .1 .1 .1 .0, (tt, (h .1 .1 .1 .1 .1 .1 .0, (h .1 .1 .1 .1 .1 .1 .1 .0, tt)))))))))))))

@@ -20,7 +20,7 @@ use Rattle.records.specs.declared.kit_numbers.KitNumbers.{KitNumbers}
 use Rattle.tokens.specs.declared.fault.Fault.{Fault}
 use Rattle.tokens.proofs.Lays.{Names}
 use Rattle.order_file.specs.File.{Filed, kit-section, card-section, most-levels, sections, and-no-more, order-file}
-use Rattle.order_file.specs.Limits.{Kit-fits, Level-fits, Load-fits, Card-fits, Fits}
+use Rattle.order_file.specs.Limits.{Kit-short, Level-short, Load-short, Card-short, Fits}
 use Rattle.order_file.specs.Records.{read-kit, read-card}
 use Rattle.order_file.specs.Render.{kit-words, level-words, load-words, card-words, lines-of, section-text, render}
 use Rattle.order_file.specs.Sections.{Place, next, record-line}
@@ -44,35 +44,35 @@ card-name = record { is = refl; plain = record { no-space = refl; no-end = refl;
 abbrev kit-or-none : ℕ → Place → Result (Option KitNumbers × Place) Fault
 kit-or-none n q = cond (eqb n 0) (Ok (None, q)) (next (record-line read-kit q) (λ k r. Ok (Some k, r)))
 
-kit-counted : (n : ℕ) → n ≤ 1 → Parses-picked (λ k. Unit {0} × (length (listOf k) ≡ n)) (kit-or-none n) (λ k. lines-of kit-words (listOf k)) (λ k. All Kit-fits (listOf k))
+kit-counted : (n : ℕ) → n ≤ 1 → Parses-picked (λ k. Unit {0} × (length (listOf k) ≡ n)) (kit-or-none n) (λ k. lines-of kit-words (listOf k)) (λ k. All Kit-short (listOf k))
 kit-counted zero h = record {
-  back = λ p k q e. subst (λ (t : Option KitNumbers × Place). (Unit {0} × (length (listOf (t .0)) ≡ 0)) × (p .0 ≡ lines-of kit-words (listOf (t .0)) (t .1 .0)) × All Kit-fits (listOf (t .0))) (ok-same e) ((tt, refl), refl, tt);
+  back = λ p k q e. subst (λ (t : Option KitNumbers × Place). (Unit {0} × (length (listOf (t .0)) ≡ 0)) × (p .0 ≡ lines-of kit-words (listOf (t .0)) (t .1 .0)) × All Kit-short (listOf (t .0))) (ok-same e) ((tt, refl), refl, tt);
   forth = none;
 }
   where
-    none : (k : Option KitNumbers) (after : List ℕ) (n : ℕ) → Unit {0} × (length (listOf k) ≡ 0) → All Kit-fits (listOf k) → (m : ℕ) × (kit-or-none 0 (lines-of kit-words (listOf k) after, n) ≡ Ok (k, (after, m)))
+    none : (k : Option KitNumbers) (after : List ℕ) (n : ℕ) → Unit {0} × (length (listOf k) ≡ 0) → All Kit-short (listOf k) → (m : ℕ) × (kit-or-none 0 (lines-of kit-words (listOf k) after, n) ≡ Ok (k, (after, m)))
     none None after n p f = (n, refl)
     none (Some k) after n p f = absurd (let bad : ⊥ = omega (arith, p .1) in bad)
 kit-counted (suc zero) h = record {
   back = λ p k q e.
       and-next (record-line read-kit p) _ _ e (λ x r d i.
       let o = kit-line .back p x r d in
-      subst (λ (t : Option KitNumbers × Place). (Unit {0} × (length (listOf (t .0)) ≡ 1)) × (p .0 ≡ lines-of kit-words (listOf (t .0)) (t .1 .0)) × All Kit-fits (listOf (t .0))) (ok-same i) ((tt, refl), o .1, (o .2, tt)));
+      subst (λ (t : Option KitNumbers × Place). (Unit {0} × (length (listOf (t .0)) ≡ 1)) × (p .0 ≡ lines-of kit-words (listOf (t .0)) (t .1 .0)) × All Kit-short (listOf (t .0))) (ok-same i) ((tt, refl), o .1, (o .2, tt)));
   forth = some;
 }
   where
-    kit-line : Parses (record-line read-kit) (λ x after. lines-of kit-words (x ∷ []) after) Kit-fits
+    kit-line : Parses (record-line read-kit) (λ x after. lines-of kit-words (x ∷ []) after) Kit-short
     kit-line = line-parses kit-lays (λ x. omega arith)
 
-    some : (k : Option KitNumbers) (after : List ℕ) (n : ℕ) → Unit {0} × (length (listOf k) ≡ 1) → All Kit-fits (listOf k) → (m : ℕ) × (kit-or-none 1 (lines-of kit-words (listOf k) after, n) ≡ Ok (k, (after, m)))
+    some : (k : Option KitNumbers) (after : List ℕ) (n : ℕ) → Unit {0} × (length (listOf k) ≡ 1) → All Kit-short (listOf k) → (m : ℕ) × (kit-or-none 1 (lines-of kit-words (listOf k) after, n) ≡ Ok (k, (after, m)))
     some None after n p f = absurd (let bad : ⊥ = omega (arith, p .1) in bad)
     some (Some k) after n p f = let o = kit-line .forth k after n tt (f .0) in (o .0, go-on _ (o .1))
 kit-counted (suc (suc n)) h = absurd (let bad : ⊥ = omega arith in bad)
 
-pub kit-parses : Parses kit-section (λ k. section-text (codes "KIT") kit-words (listOf k)) (λ k. ((0 ≤ length (listOf k)) × (length (listOf k) ≤ 1)) × All Kit-fits (listOf k))
+pub kit-parses : Parses kit-section (λ k. section-text (codes "KIT") kit-words (listOf k)) (λ k. ((0 ≤ length (listOf k)) × (length (listOf k) ≤ 1)) × All Kit-short (listOf k))
 kit-parses = part (count-parses kit-name 0 1 (omega arith)) (λ k. length (listOf k)) (λ n h. kit-counted n (h .1))
 
-pub card-parses : Parses card-section (λ x. section-text (codes "CARD") card-words (x ∷ [])) (λ x. ((1 ≤ 1) × (1 ≤ 1)) × Card-fits x)
+pub card-parses : Parses card-section (λ x. section-text (codes "CARD") card-words (x ∷ [])) (λ x. ((1 ≤ 1) × (1 ≤ 1)) × Card-short x)
 card-parses = part (count-parses card-name 1 1 (omega arith)) (λ x. 1) (λ n h. picked-so (λ x f. (tt, omega (arith, h .0, h .1))) (line-parses card-lays (λ x. omega arith)))
 
 pub most-few : (o : Option KitNumbers) → most-levels o ≤ 64
@@ -93,7 +93,7 @@ text f after =
 
 -- what the parts ask of a file
 abbrev Parts-fit : Filed → Type 0
-Parts-fit f = (((0 ≤ length (listOf (f .kit))) × (length (listOf (f .kit)) ≤ 1)) × All Kit-fits (listOf (f .kit))) × ((((0 ≤ length (f .levels)) × (length (f .levels) ≤ most-levels (f .kit))) × All Level-fits (f .levels)) × ((((0 ≤ length (f .loads)) × (length (f .loads) ≤ 64)) × All Load-fits (f .loads)) × ((((1 ≤ 1) × (1 ≤ 1)) × Card-fits (f .card)) × Unit {0})))
+Parts-fit f = (((0 ≤ length (listOf (f .kit))) × (length (listOf (f .kit)) ≤ 1)) × All Kit-short (listOf (f .kit))) × ((((0 ≤ length (f .levels)) × (length (f .levels) ≤ most-levels (f .kit))) × All Level-short (f .levels)) × ((((0 ≤ length (f .loads)) × (length (f .loads) ≤ 64)) × All Load-short (f .loads)) × ((((1 ≤ 1) × (1 ≤ 1)) × Card-short (f .card)) × Unit {0})))
 
 pub sections-parse : Parses sections text Parts-fit
 sections-parse =

@@ -22,7 +22,7 @@ pub record Accepted (f : Filed) (bytes : List ℕ) : Type 0 where
 pub record Refused (e : Fault) (bytes : List ℕ) : Type 0 where
   -- no records make these bytes
   pub unwritten : (f : Filed) → Fits f → bytes ≡ render f → ⊥
-  -- nor any file with the same lines up to the faulty one
+  -- nor any file with the same lines up to and including the faulty one
   pub faulty : (f : Filed) → Fits f → Shares (fault-line e) bytes (render f) → ⊥
   -- but some file with the same lines before it
   pub first : (f : Filed) × Fits f × Shares (fault-line e - 1) bytes (render f)

@@ -32,7 +32,7 @@ use Rattle.order_frame.specs.declared.refusal.Refusal.{Refusal}
 use Rattle.order_frame.specs.Blame.{Holds-kit, Holds-level, Holds-record, Blames}
 use Rattle.order_frame.specs.Frames.{kit-levels, first-added-denial, frame-denial}
 use Rattle.order_frame.specs.Outcomes.{framed, judged, outcome}
-use Rattle.order_frame.specs.Refusals.{kit-count, record-line, listed-line, found-line, frame-refusal}
+use Rattle.order_frame.specs.Refusals.{kit-count, blamed-line, listed-line, found-line, frame-refusal}
 use Rattle.order_frame.proofs.Reasons.{added-some, denied-reason}
 
 -- level k is one that the file lists, over the kit
@@ -41,7 +41,7 @@ pub record Listed (f : Filed) (k : ℕ) : Type 0 where
   pub within : k ≤ kit-count (f .kit) + length (f .levels)
   pub kit-long : length (kit-levels (f .kit)) ≡ kit-count (f .kit)
 
-listed : (f : Filed) (k : ℕ) → Listed f k → listed-line f k ≡ Some (record-line f (OutOfRange k))
+listed : (f : Filed) (k : ℕ) → Listed f k → listed-line f k ≡ Some (blamed-line f (OutOfRange k))
 listed f k p =
     cond-true (leb 1 (k - kit-count (f .kit)) && leb (k - kit-count (f .kit)) (length (f .levels))) _ None
     (and-from _ _ (le-leb 1 _ (omega (arith, p .over-kit))) (le-leb _ (length (f .levels)) (omega (arith, p .within))))
@@ -130,7 +130,7 @@ located f d few e = located-at (f .kit) f d refl few e
 kit-found : (f : Filed) → (n : KitNumbers) × (f .kit ≡ Some n) → mapped (λ _. kit-line) (f .kit) ≡ Some kit-line
 kit-found f (n, is) = ap (mapped (λ _. kit-line)) is
 
-pub found : (f : Filed) (d : FrameDenial) → Located f d → found-line f d ≡ Some (record-line f d)
+pub found : (f : Filed) (d : FrameDenial) → Located f d → found-line f d ≡ Some (blamed-line f d)
 found f (TooManyLevels k) p = listed f k p
 found f (OutOfRange k) p = listed f k p
 found f (TooHigh k) p = listed f k p
@@ -154,7 +154,7 @@ holds-level f bytes k lines p =
 holds-kit : (f : Filed) (bytes : List ℕ) → Lined-up f bytes → (n : KitNumbers) × (f .kit ≡ Some n) → Holds-kit f kit-line bytes
 holds-kit f bytes lines (n, is) = (n, is, lines .kit n is)
 
-holds : (f : Filed) (bytes : List ℕ) (d : FrameDenial) → Lined-up f bytes → Located f d → Holds-record f d (record-line f d) bytes
+holds : (f : Filed) (bytes : List ℕ) (d : FrameDenial) → Lined-up f bytes → Located f d → Holds-record f d (blamed-line f d) bytes
 holds f bytes (TooManyLevels k) lines p = holds-level f bytes k lines p
 holds f bytes (OutOfRange k) lines p = holds-level f bytes k lines p
 holds f bytes (TooHigh k) lines p = holds-level f bytes k lines p

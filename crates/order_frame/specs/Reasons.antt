@@ -1,4 +1,5 @@
--- Why the frame of a file is denied: the levels below are a frame, and with this one they are not.
+-- Why the frame of a file is denied. Of a level out of range or too high: those below it are a frame, and with it they
+-- are not.
 use mathlib.Core.Path.{_≡_}
 use mathlib.Core.Bool.{true, false}
 use mathlib.Core.List.{List}
@@ -25,7 +26,7 @@ use Rattle.order_frame.specs.Frames.{frame-levels}
 abbrev pub Frame-below : List Level → ℕ → Type 0
 Frame-below ls k = Sound (take (k - 1) ls)
 
--- there is no room for level k of the file's: a table has 25 levels or more; a kit bears 24 in all, and eight storeys
+-- there is no room for level k of the frame: a table has 25 levels or more; on a kit 24 levels stand, or eight storeys
 abbrev pub No-room : Option KitNumbers → List Level → ℕ → Type 0
 No-room None levels k = (k ≡ 25) × (24 < length levels)
 No-room (Some n) levels k = Frame-below (frame-levels (Some n) levels) k × (k ≤ length (frame-levels (Some n) levels)) × ((k ≡ 25) ⊎ (k ≡ n .levels + 9))

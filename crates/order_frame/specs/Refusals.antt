@@ -33,16 +33,16 @@ kit-count None = 0
 kit-count (Some n) = n .levels
 
 -- the line of the record that a frame's denial is about: the kit's, or that of the level, which counts from the ground
-abbrev pub record-line : Filed → FrameDenial → ℕ
-record-line f (TooManyLevels k) = level-line f (k - kit-count (f .kit))
-record-line f (OutOfRange k) = level-line f (k - kit-count (f .kit))
-record-line f (TooHigh k) = level-line f (k - kit-count (f .kit))
-record-line f KitOutOfRange = kit-line
-record-line f KitTooHigh = kit-line
+abbrev pub blamed-line : Filed → FrameDenial → ℕ
+blamed-line f (TooManyLevels k) = level-line f (k - kit-count (f .kit))
+blamed-line f (OutOfRange k) = level-line f (k - kit-count (f .kit))
+blamed-line f (TooHigh k) = level-line f (k - kit-count (f .kit))
+blamed-line f KitOutOfRange = kit-line
+blamed-line f KitTooHigh = kit-line
 
 -- the refusal of the file's frame
 abbrev pub frame-refusal : Filed → FrameDenial → Refusal
-frame-refusal f d = refusal (denial-number d) (record-line f d) (denial-place d)
+frame-refusal f d = refusal (denial-number d) (blamed-line f d) (denial-place d)
 
 -- the line of level k of the frame, where the file lists it
 abbrev pub listed-line : Filed → ℕ → Option ℕ

@@ -31,6 +31,7 @@ pub(crate) fn is_word(word: &[u8], text: &[u8]) -> bool
     word == text
 }
 
+// Whether it is KIT, LEVELS, LOADS or CARD, by its first byte and the rest.
 fn names_section(word: &[u8]) -> bool
     ensures { λ r. ⌜ r ≡ is-section (now (word .entry)) ⌝ }
 {

@@ -6,7 +6,7 @@ use Rattle.std.specs.declared.option.Option.the-variants.{Some}
 use Rattle.std.specs.Of.Vec.{vec-items}
 use Rattle.frames.specs.Denials.{denial-number, denial-place}
 use Rattle.order_file.specs.File.{filed}
-use Rattle.order_frame.specs.Refusals.{refusal, record-line}
+use Rattle.order_frame.specs.Refusals.{refusal, blamed-line}
 use Rattle.order_frame.proofs.Blame.{located, found, denied-outcome, blames}
 use Rattle.order_frame.proofs.refusal_of.Needs as need
 
@@ -20,7 +20,7 @@ returns c =
     let f = filed (c .args .file .now) in
     let few : length (vec-items (c .args .file .now .levels)) ≤ 24 = omega (arith, c .args .file .now .«few_levels», c .args .file .now .levels .ok .0) in
     let there = c .in-Some .ensures tt ∙ found f (c .args .denial) (located f (c .args .denial) few (c .pre)) in
-    let line : c .in-Some .line ≡ record-line (filed (c .args .file .now)) (c .args .denial) = cc in
+    let line : c .in-Some .line ≡ blamed-line (filed (c .args .file .now)) (c .args .denial) = cc in
     let is = c .on-line .ensures ∙ ap (λ (n : ℕ). refusal (denial-number (c .args .denial)) n (denial-place (c .args .denial))) line in
     record {
       told = λ bytes h. denied-outcome f bytes (c .args .denial) _ h (c .pre) is;
