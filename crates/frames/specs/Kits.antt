@@ -12,17 +12,18 @@ use Rattle.records.specs.Kits.{floor, roof}
 use Rattle.records.specs.Ranges.{from-to, level-fits}
 use Rattle.frames.specs.declared.denial.FrameDenial.{FrameDenial}
 use Rattle.frames.specs.declared.denial.FrameDenial.the-variants.{KitOutOfRange, KitTooHigh}
+use Rattle.records.specs.Limits.{level-limit, height-limit}
 
 -- 1 to 24 levels, and each number of the floors and of the roof within its range;
 -- the floor weight is checked in a kit of one level too
 abbrev pub kit-in-range : KitNumbers → Bool
-kit-in-range n = from-to 1 24 (n .levels) && (level-fits (floor n) && level-fits (roof n))
+kit-in-range n = from-to 1 level-limit (n .levels) && (level-fits (floor n) && level-fits (roof n))
 
 -- the denial of a kit: its ranges go before its height
 abbrev pub kit-denial : KitNumbers → Option FrameDenial
 kit-denial n =
     cond (not (kit-in-range n)) (Some KitOutOfRange)
-    (cond (ltb 500 (n .levels * n .height .0)) (Some KitTooHigh) None)
+    (cond (ltb height-limit (n .levels * n .height .0)) (Some KitTooHigh) None)
 
 -- floors, and the roof over them
 abbrev pub kit-list : KitNumbers → List Level

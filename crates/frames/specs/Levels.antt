@@ -10,6 +10,7 @@ use Rattle.std.specs.declared.option.Option.the-variants.{Some, None}
 use Rattle.records.specs.declared.height.LevelHeight.{LevelHeight}
 use Rattle.records.specs.declared.level.Level.{Level}
 use Rattle.records.specs.Ranges.{level-fits}
+use Rattle.records.specs.Limits.{level-limit, height-limit}
 
 -- the sum of one number over the levels
 abbrev pub total : (Level → ℕ) → List Level → ℕ
@@ -49,7 +50,7 @@ all-fit (l ∷ ls) = level-fits l && all-fit ls
 
 -- at most 24 levels, the top at 500 dm or lower, each number within its range
 abbrev pub sound : List Level → Bool
-sound ls = leb (length ls) 24 && (leb (height-of ls) 500 && all-fit ls)
+sound ls = leb (length ls) level-limit && (leb (height-of ls) height-limit && all-fit ls)
 
 abbrev pub Sound : List Level → Type 0
 Sound ls = sound ls ≡ true

@@ -16,12 +16,13 @@ use Rattle.records.specs.Ranges.{level-fits}
 use Rattle.frames.specs.declared.denial.FrameDenial.{FrameDenial}
 use Rattle.frames.specs.declared.denial.FrameDenial.the-variants.{OutOfRange, TooHigh}
 use Rattle.frames.specs.Levels.{height-of}
+use Rattle.records.specs.Limits.{level-limit, height-limit}
 
 -- why a level may not stand as level k + 1, on k levels whose top is at h dm: its range goes before its height
 abbrev pub step-denial : ℕ → ℕ → Level → Option FrameDenial
 step-denial k h l =
     cond (not (level-fits l)) (Some (OutOfRange (k + 1)))
-    (cond (ltb 500 (h + l .height .0)) (Some (TooHigh (k + 1))) None)
+    (cond (ltb height-limit (h + l .height .0)) (Some (TooHigh (k + 1))) None)
 
 -- the new top, or the denial
 abbrev pub Judged : ℕ → LevelHeight → Level → Result LevelHeight FrameDenial → Type 0
@@ -30,7 +31,7 @@ Judged k top l (Err d) = step-denial k (top .0) l ≡ Some d
 
 -- whether a level may stand on k levels whose top is at h dm
 abbrev pub stands : ℕ → ℕ → Level → Bool
-stands k h l = ltb k 24 && not (isSome (step-denial k h l))
+stands k h l = ltb k level-limit && not (isSome (step-denial k h l))
 
 -- the new top, or nothing
 abbrev pub Stood : ℕ → LevelHeight → Level → Option LevelHeight → Type 0

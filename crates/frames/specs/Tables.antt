@@ -15,6 +15,7 @@ use Rattle.frames.specs.declared.denial.FrameDenial.{FrameDenial}
 use Rattle.frames.specs.declared.denial.FrameDenial.the-variants.{TooManyLevels, OutOfRange, TooHigh, KitOutOfRange, KitTooHigh}
 use Rattle.frames.specs.Levels.{Sound, level-at, level-height}
 use Rattle.frames.specs.Steps.{step-denial}
+use Rattle.records.specs.Limits.{level-limit, height-limit}
 
 -- the first denial, and only then the second
 abbrev pub or-else : Option FrameDenial → Option FrameDenial → Option FrameDenial
@@ -28,7 +29,7 @@ denial-from k h (l ∷ ls) = or-else (step-denial k h l) (denial-from (k + 1) (h
 
 -- the denial of a table: the count goes first
 abbrev pub lay-denial : List Level → Option FrameDenial
-lay-denial table = cond (ltb 24 (length table)) (Some (TooManyLevels 25)) (denial-from 0 0 table)
+lay-denial table = cond (ltb level-limit (length table)) (Some (TooManyLevels (level-limit + 1))) (denial-from 0 0 table)
 
 -- refused with exactly this denial, or not at all
 abbrev pub Checked : Option FrameDenial → Result (Unit {0}) FrameDenial → Type 0
@@ -45,13 +46,13 @@ Out-of-range ls k = (l : Level) × (level-at ls k ≡ Some l) × (level-fits l �
 
 -- each level below level k is in range and stands at 500 dm or lower
 abbrev pub Good-below : List Level → ℕ → Type 0
-Good-below ls k = (j : ℕ) → 1 ≤ j → j < k → In-range ls j × (level-height ls j ≤ 500)
+Good-below ls k = (j : ℕ) → 1 ≤ j → j < k → In-range ls j × (level-height ls j ≤ height-limit)
 
 -- when a table meets each denial
 abbrev pub Denied-when : List Level → FrameDenial → Type 0
-Denied-when table (TooManyLevels k) = (k ≡ 25) × (24 < length table)
-Denied-when table (OutOfRange k) = (length table ≤ 24) × Good-below table k × Out-of-range table k
-Denied-when table (TooHigh k) = (length table ≤ 24) × Good-below table k × In-range table k × (500 < level-height table k)
+Denied-when table (TooManyLevels k) = (k ≡ level-limit + 1) × (level-limit < length table)
+Denied-when table (OutOfRange k) = (length table ≤ level-limit) × Good-below table k × Out-of-range table k
+Denied-when table (TooHigh k) = (length table ≤ level-limit) × Good-below table k × In-range table k × (height-limit < level-height table k)
 Denied-when table KitOutOfRange = ⊥
 Denied-when table KitTooHigh = ⊥
 

@@ -18,6 +18,7 @@ use Rattle.frames.specs.declared.topping.Place.the-variants.{Below, Own, Nowhe
 use Rattle.frames.specs.Levels.{height-of, level-at}
 use Rattle.frames.specs.OwnStoreys.{own-storeys}
 use Rattle.frames.specs.Steps.{step-denial, stacked}
+use Rattle.records.specs.Limits.{level-limit, storey-limit}
 
 -- the list below, and the topping's own storeys as far as a frame's limits allow
 abbrev pub topped : {F : Type 0} → (F → List Level) → Topping F → List Level
@@ -30,8 +31,8 @@ own-count below whole = length whole - length below
 -- the denial of one level more, on n levels of which s are the topping's own, with the top at h dm
 abbrev pub add-denial : ℕ → ℕ → ℕ → Level → Option FrameDenial
 add-denial n s h l =
-    cond (leb 24 n) (Some (TooManyLevels (n + 1)))
-    (cond (leb 8 s) (Some (TooManyLevels (n + 1)))
+    cond (leb level-limit n) (Some (TooManyLevels (n + 1)))
+    (cond (leb storey-limit s) (Some (TooManyLevels (n + 1)))
     (step-denial n h l))
 
 -- the denial of one level more on the whole list, which stands over the list below

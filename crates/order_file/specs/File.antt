@@ -21,6 +21,7 @@ use Rattle.order_file.specs.declared.not_read.NotRead.{NotRead}
 use Rattle.order_file.specs.declared.not_read.NotRead.the-variants.{Faulty, NoMemory}
 use Rattle.order_file.specs.Records.{read-kit, read-level, read-load, read-card}
 use Rattle.order_file.specs.Sections.{Place, next, record-line, count-line, section-of-up-to}
+use Rattle.records.specs.Limits.{level-limit, storey-limit}
 
 -- the records of a file as plain lists
 pub record Filed : Type 0 where
@@ -34,8 +35,8 @@ filed f = record { kit = f .kit; levels = vec-items (f .levels); loads = vec-ite
 
 -- without a kit a file lists the whole frame, and with one only what stands on top of it
 abbrev pub most-levels : Option KitNumbers → ℕ
-most-levels None = 24
-most-levels (Some k) = 8
+most-levels None = level-limit
+most-levels (Some k) = storey-limit
 
 abbrev pub most-loads : ℕ
 most-loads = 64

@@ -21,6 +21,7 @@ use Rattle.frames.specs.Levels.{Sound, level-height}
 use Rattle.frames.specs.Tables.{In-range, Out-of-range}
 use Rattle.order_frame.specs.declared.frame.OrderFrame.{OrderFrame}
 use Rattle.order_frame.specs.Frames.{frame-levels}
+use Rattle.records.specs.Limits.{level-limit, storey-limit, height-limit}
 
 -- the levels below level k are a frame
 abbrev pub Frame-below : List Level → ℕ → Type 0
@@ -28,16 +29,16 @@ Frame-below ls k = Sound (take (k - 1) ls)
 
 -- there is no room for level k of the frame: a table has 25 levels or more; on a kit 24 levels stand, or eight storeys
 abbrev pub No-room : Option KitNumbers → List Level → ℕ → Type 0
-No-room None levels k = (k ≡ 25) × (24 < length levels)
-No-room (Some n) levels k = Frame-below (frame-levels (Some n) levels) k × (k ≤ length (frame-levels (Some n) levels)) × ((k ≡ 25) ⊎ (k ≡ n .levels + 9))
+No-room None levels k = (k ≡ level-limit + 1) × (level-limit < length levels)
+No-room (Some n) levels k = Frame-below (frame-levels (Some n) levels) k × (k ≤ length (frame-levels (Some n) levels)) × ((k ≡ level-limit + 1) ⊎ (k ≡ n .levels + storey-limit + 1))
 
 -- why each denial comes
 abbrev pub Reason : Option KitNumbers → List Level → FrameDenial → Type 0
 Reason kit levels (TooManyLevels k) = No-room kit levels k
 Reason kit levels (OutOfRange k) = Frame-below (frame-levels kit levels) k × Out-of-range (frame-levels kit levels) k
-Reason kit levels (TooHigh k) = Frame-below (frame-levels kit levels) k × In-range (frame-levels kit levels) k × (500 < level-height (frame-levels kit levels) k)
+Reason kit levels (TooHigh k) = Frame-below (frame-levels kit levels) k × In-range (frame-levels kit levels) k × (height-limit < level-height (frame-levels kit levels) k)
 Reason kit levels KitOutOfRange = (n : KitNumbers) × (kit ≡ Some n) × (kit-in-range n ≡ false)
-Reason kit levels KitTooHigh = (n : KitNumbers) × (kit ≡ Some n) × (kit-in-range n ≡ true) × (500 < n .levels * n .height .0)
+Reason kit levels KitTooHigh = (n : KitNumbers) × (kit ≡ Some n) × (kit-in-range n ≡ true) × (height-limit < n .levels * n .height .0)
 
 -- a frame is made of levels that are one, and denied for a reason
 abbrev pub Reasoned : Option KitNumbers → List Level → Result OrderFrame NotLaid → Type 0

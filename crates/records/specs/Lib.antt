@@ -1,3 +1,4 @@
 pub mod Heights
 pub mod Kits
+pub mod Limits
 pub mod Ranges
