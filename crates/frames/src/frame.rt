@@ -7,9 +7,6 @@ ghost use Rattle.frames.specs.Levels.{Sound, level-at, top-of, weight-of};
 use records::height::LevelHeight;
 use records::level::Level;
 
-/// The most levels that a frame may have.
-pub const MOST_LEVELS: u32 = 24;
-
 /// A list of levels, from the lowest up, that keeps a frame's limits.
 pub trait Frame {
     ghost list: { Self → List Level };

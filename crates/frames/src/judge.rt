@@ -2,9 +2,9 @@
 ghost use Prim.Native.Nat.{_≤_};
 ghost use Rattle.frames.specs.Steps.{Judged, Stood};
 use crate::denial::FrameDenial;
-use crate::frame::MOST_LEVELS;
 use records::height::LevelHeight;
 use records::level::Level;
+use records::limits::MOST_LEVELS;
 
 // The top with the level on it, where so many levels stand already.
 pub(crate) fn judge(

@@ -6,9 +6,7 @@ ghost use lib.ListN.{take};
 ghost use Rattle.frames.specs.OwnStoreys.{own-storeys};
 use records::height::StoreyHeight;
 use records::level::Level;
-
-// The most storeys that a topping may have of its own.
-pub(crate) const MOST_STOREYS: usize = 8;
+use records::limits::MOST_STOREYS;
 
 // What stands at a place that was never written.
 const BLANK: Level = Level {

@@ -9,14 +9,14 @@ ghost use Rattle.frames.specs.Tables.{Checked};
 ghost use Rattle.frames.specs.Toppings.{topped, own-count, add-denial, Added, Admitted, Placed};
 use crate::denial::FrameDenial;
 use crate::frame::Frame;
-use crate::frame::MOST_LEVELS;
 use crate::judge::judge;
 use crate::listed::count_standing;
 use crate::listed::level_of;
-use crate::storeys::MOST_STOREYS;
 use crate::storeys::Storeys;
 use records::height::LevelHeight;
 use records::level::Level;
+use records::limits::MOST_LEVELS;
+use records::limits::MOST_STOREYS;
 
 /// Another frame with storeys on it.
 #[derive(Drop)]

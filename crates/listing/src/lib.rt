@@ -5,6 +5,7 @@ ghost use lib.ListN.{length, take};
 ghost use Rattle.std.specs.Of.String.{string-bytes};
 ghost use Rattle.std.specs.Vec.{made};
 ghost use Rattle.tokens.specs.Text.{line-of};
+ghost use Rattle.order_file.specs.File.{byte-limit};
 ghost use Rattle.listing.specs.Listings.{heading, row-words, lines-to, levels-text, listing-text};
 use frames::frame::Frame;
 use order_frame::frame::OrderFrameFrame;
@@ -20,7 +21,7 @@ use std::alloc::Global;
 /// The text that lists the levels of the frame which the file describes, or that tells why there is none.
 pub fn listing(file: &[u8], heap: Global) -> Result<String, AllocError>
     ensures text { λ r. ⌜ made r (λ t. string-bytes t ≡ listing-text (now (file .entry))) ⌝ }
-    ensures front { λ r. ⌜ made r (λ t. string-bytes t ≡ listing-text (take 8192 (now (file .entry)))) ⌝ }
+    ensures front { λ r. ⌜ made r (λ t. string-bytes t ≡ listing-text (take byte-limit (now (file .entry)))) ⌝ }
 {
     let text = String::new(heap);
     match open(file, heap) {

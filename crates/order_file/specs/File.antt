@@ -33,6 +33,10 @@ pub record Filed : Type 0 where
 abbrev pub filed : OrderFile → Filed
 filed f = record { kit = f .kit; levels = vec-items (f .levels); loads = vec-items (f .loads); card = f .card }
 
+-- of a longer file only so many bytes count
+abbrev pub byte-limit : ℕ
+byte-limit = 8192
+
 -- without a kit a file lists the whole frame, and with one only what stands on top of it
 abbrev pub most-levels : Option KitNumbers → ℕ
 most-levels None = level-limit

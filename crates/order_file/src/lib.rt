@@ -5,7 +5,7 @@
 ghost use lib.ListN.{take};
 ghost use Rattle.std.specs.Vec.{made};
 ghost use Rattle.order_file.specs.Exact.{Exactly};
-ghost use Rattle.order_file.specs.File.{order-file, filed, Read-as};
+ghost use Rattle.order_file.specs.File.{byte-limit, order-file, filed, Read-as};
 ghost use Rattle.order_file.specs.Lines.{Lined-up};
 use contents::OrderFile;
 use not_read::NotRead;
@@ -22,7 +22,7 @@ mod record;
 pub fn read(file: &[u8], heap: Global) -> Result<OrderFile, NotRead>
     ensures told { λ r. ⌜ Read-as r (order-file (now (file .entry))) ⌝ }
     ensures exact { λ r. ⌜ Exactly r (now (file .entry)) ⌝ }
-    ensures front { λ r. ⌜ Read-as r (order-file (take 8192 (now (file .entry)))) ⌝ }
+    ensures front { λ r. ⌜ Read-as r (order-file (take byte-limit (now (file .entry)))) ⌝ }
     ensures lines { λ r. ⌜ made r (λ f. Lined-up (filed f) (now (file .entry))) ⌝ }
 {
     read_file(file, heap)

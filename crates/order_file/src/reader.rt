@@ -18,18 +18,14 @@ use crate::record::Record;
 use records::card::Card;
 use records::kit_numbers::KitNumbers;
 use records::level::Level;
+use records::limits::MOST_LEVELS;
+use records::limits::MOST_STOREYS;
 use records::line::Line;
 use std::alloc::Global;
 use tokens::fault::Fault;
 use tokens::text_line::TextLine;
 
-// How many levels a file may list where it has no kit.
-const MOST_LEVELS: u32 = 24;
-
-// How many levels it may list on top of a kit.
-const MOST_STOREYS: u32 = 8;
-
-// How many loads it may list.
+// How many loads a file may list.
 const MOST_LOADS: u32 = 64;
 
 // What is left of a file, and the number of the line that comes next.
@@ -143,7 +139,7 @@ impl<'a> Reader<'a> {
         ensures line { λ r. ⌜ made r (λ v. (now (self .exit) .line ≤ now (self .entry) .line + 25) × (vec-len v ≤ 24)) ⌝ }
     {
         let most = match kit {
-            Some(_) => MOST_STOREYS,
+            Some(_) => MOST_STOREYS as u32,
             None => MOST_LEVELS,
         };
         self.section(b"LEVELS", most, heap)

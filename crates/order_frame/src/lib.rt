@@ -4,7 +4,7 @@ ghost use mathlib.Core.List.{List};
 ghost use Prim.Native.Nat.{ℕ};
 ghost use Rattle.std.specs.Of.Vec.{vec-items};
 ghost use Rattle.std.specs.declared.option.Option.the-variants.{Some};
-ghost use Rattle.order_file.specs.File.{filed, order-file};
+ghost use Rattle.order_file.specs.File.{byte-limit, filed, order-file};
 ghost use Rattle.order_file.specs.Lines.{Lined-up};
 ghost use Rattle.std.specs.declared.result.Result.the-variants.{Ok, Err};
 ghost use lib.ListN.{take};
@@ -32,7 +32,7 @@ pub mod refusal;
 /// Reads an order file and makes its frame: the file is judged first, then the kit, then the levels from below.
 pub fn open(bytes: &[u8], heap: Global) -> Result<Opened, NotOpened>
     ensures told { λ r. ⌜ Opened-as r (outcome (now (bytes .entry))) ⌝ }
-    ensures front { λ r. ⌜ Opened-as r (outcome (take 8192 (now (bytes .entry)))) ⌝ }
+    ensures front { λ r. ⌜ Opened-as r (outcome (take byte-limit (now (bytes .entry)))) ⌝ }
     ensures blame { λ r. ⌜ Blamed r (now (bytes .entry)) ⌝ }
 {
     let file = read(bytes, heap)?;

@@ -5,4 +5,5 @@ pub mod denial;
 pub mod height;
 pub mod kit_numbers;
 pub mod level;
+pub mod limits;
 pub mod line;

@@ -6,11 +6,11 @@ ghost use Rattle.frames.specs.Levels.{level-at};
 ghost use Rattle.frames.specs.Tables.{Checked};
 use crate::denial::FrameDenial;
 use crate::frame::Frame;
-use crate::frame::MOST_LEVELS;
 use crate::kit::Kit;
 use records::height::LevelHeight;
 use records::kit_numbers::KitNumbers;
 use records::level::Level;
+use records::limits::MOST_LEVELS;
 
 // Which of the two kinds of level one is.
 #[derive(Clone, Copy)]

@@ -8,12 +8,12 @@ use crate::denial::NotLaid;
 use crate::denial::NotLaidByDenial;
 use crate::denial::NotLaidByMemory;
 use crate::frame::Frame;
-use crate::frame::MOST_LEVELS;
 use crate::judge::judge;
 use crate::listed::level_of;
 use crate::typed::Typed;
 use records::height::LevelHeight;
 use records::level::Level;
+use records::limits::MOST_LEVELS;
 use std::alloc::Global;
 
 impl Typed {
