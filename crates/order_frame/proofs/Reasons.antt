@@ -165,4 +165,4 @@ denied-reason (Some n) levels d e =
 pub reasoned : (kit : Option KitNumbers) (levels : List Level) (r : Result OrderFrame NotLaid) → Framed kit levels r → Reasoned kit levels r
 reasoned kit levels (Ok f) h = good-sound kit levels (h .0)
 reasoned kit levels (Err (Denied d)) h = denied-reason kit levels d h
-reasoned kit levels (Err NoMemory) h = good-sound kit levels h
+reasoned kit levels (Err NoMemory) h = good-sound kit levels (h .0)

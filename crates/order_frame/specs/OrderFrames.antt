@@ -23,11 +23,11 @@ abbrev pub frame-list : OrderFrame → List Level
 frame-list (Typed t) = typed-list t
 frame-list (Topped t) = topped made-list t
 
--- the frame of exactly these levels, or the denial; memory is wanting only where there is no denial
+-- the frame of exactly these levels, or the denial; memory is wanting only for a table without denial, never on a kit
 abbrev pub Framed : Option KitNumbers → List Level → Result OrderFrame NotLaid → Type 0
 Framed kit levels (Ok f) = (frame-denial kit levels ≡ None) × (frame-list f ≡ frame-levels kit levels)
 Framed kit levels (Err (Denied d)) = frame-denial kit levels ≡ Some d
-Framed kit levels (Err NoMemory) = frame-denial kit levels ≡ None
+Framed kit levels (Err NoMemory) = (frame-denial kit levels ≡ None) × (kit ≡ None)
 
 -- the same of a kit with levels put on it
 abbrev pub Topped-by : KitNumbers → List Level → Result (Topping Kit) FrameDenial → Type 0
