@@ -1,5 +1,7 @@
 //! Frames: sound lists of levels, and the three kinds of them that come with the product. A frame has
 //! 0 to 24 levels, each number within its range, and its top stands at 500 dm or lower.
+#![tactic(auto)]
+
 pub mod denial;
 pub mod frame;
 mod judge;

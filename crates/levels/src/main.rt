@@ -1,4 +1,6 @@
 //! Reads an order file on standard input and prints the levels of its frame, or the refusal.
+#![tactic(auto)]
+
 use listing::listing;
 use std::io::Read;
 

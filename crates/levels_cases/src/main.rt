@@ -5,6 +5,8 @@
 //!
 //! where `|` stands for byte 10, `~` for a carriage return, `^` for a tab, `@` for byte 0, `%` for byte 255, and `$` for
 //! sections LOADS and CARD without a fault. What the files should print was worked out by hand.
+#![tactic(auto)]
+
 use listing::listing;
 use std::alloc::{AllocError, Global};
 

@@ -1,4 +1,6 @@
 //! The levels of an order file's frame, or the refusal, as text.
+#![tactic(auto)]
+
 ghost use Rattle.std.specs.Prelude.{◌≡◌, [], ◌++◌, length, take, IfOk, string_bytes};
 ghost use Rattle.tokens.specs.Text.{line_of};
 ghost use Rattle.order_file.specs.File.{byte_limit};

@@ -2,6 +2,8 @@
 //!
 //! Four sections stand in the order KIT, LEVELS, LOADS, CARD. Each is opened by a line with its word
 //! and its count, and its records follow, one a line.
+#![tactic(auto)]
+
 ghost use Rattle.std.specs.Prelude.{take, IfOk};
 ghost use Rattle.order_file.specs.Exact.{Exactly};
 ghost use Rattle.order_file.specs.File.{byte_limit, order_file_of, filed, ReadAs};

@@ -1,4 +1,6 @@
 //! From the bytes of an order file to its records and the frame that they describe, or to the refusal.
+#![tactic(auto)]
+
 ghost use Rattle.std.specs.Prelude.{◌≡◌, ℕ, List, take, Some, Ok, Err};
 ghost use Rattle.order_file.specs.File.{byte_limit, filed, order_file_of};
 ghost use Rattle.order_file.specs.Lines.{LinedUp};

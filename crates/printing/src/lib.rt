@@ -1,4 +1,6 @@
 //! Lines of words, as every program prints them: one space between two words, byte 10 at the end.
+#![tactic(auto)]
+
 ghost use Rattle.std.specs.Prelude.{◌≡◌, [], ◌∷◌, ◌++◌, map, IfOk, string_bytes};
 ghost use Rattle.tokens.specs.Text.{line_of};
 ghost use Rattle.printing.specs.Words.{spelled, spaced};
