@@ -74,7 +74,7 @@ impl<'a> TextLine<'a> {
 
     /// The next word, read as a field; a fault of layout where it is none.
     pub fn field<F: Field>(&mut self) -> Result<F, Fault>
-        ensures took { Took (λ x. x) result (left self.new) (numbered self.old) (next_field meaning (left self.old)) }
+        ensures took { Took (λ x. x) result (left self.new) (numbered self.old) (next_field F.meaning (left self.old)) }
         ensures rest { left self.new ≡ after_word (left self.old) }
         ensures same { numbered self.new ≡ numbered self.old }
     {

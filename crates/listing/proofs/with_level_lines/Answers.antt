@@ -10,13 +10,13 @@ use Rattle.listing.proofs.with_level_lines.Goals as goal
 pub unreachable-requires : goal.unreachable-requires
 unreachable-requires g c =
     let ls = g.F.Frame.list c.args.frame.now in
-    omega (arith, c.count-below-end.ensures, none_over ls c.loop-below.below (sym c.in-default.ensures))
+    omega (arith, c.count-below-end.ensures, none_over ls c.loop-below.below (sym c.in_default.ensures))
 
-pub unreachable-requires-in-default-above : goal.unreachable-requires-in-default-above
-unreachable-requires-in-default-above g c =
+pub unreachable-requires-in_default-above : goal.unreachable-requires-in_default-above
+unreachable-requires-in_default-above g c =
     let ls = g.F.Frame.list c.args.frame.now in
     let s = limits ls (g.met.F.Frame.sound c.args.frame.now) in
-    let high = raised_none c.loop-below.height c.in-Some.level.height (sym c.in-default-above.ensures) in
+    let high = raised_none c.loop-below.height c.in-Some.level.height (sym c.in_default-above.ensures) in
     omega (arith, c.loop-below.invariant.0, total_within (λ (l : Level). l.height.0) ls c.loop-below.below c.in-Some.level (sym c.in-Some.ensures))
 
 pub loop-below-preserved : goal.loop-below-preserved
@@ -26,7 +26,7 @@ loop-below-preserved g c =
     let r = raised_some c.loop-below.height c.in-Some.level.height c.in-Some-above.higher (sym c.in-Some-above.ensures) in
     let high : c.in-Some-above.higher.0 ≡ level_height (g.F.Frame.list c.args.frame.now) (c.loop-below.below + 1) =
     omega (arith, r.1, c.loop-below.invariant.0, total_more (λ (l : Level). l.height.0) ls c.loop-below.below c.in-Some.level at) in
-    (high, line_more ls c.loop-below.below c.in-Some.level _ at high _ _ _ c.loop-below.invariant.1 c.in-ok-text.ensures)
+    (high, line_more ls c.loop-below.below c.in-Some.level _ at high _ _ _ c.loop-below.invariant.1 c.in_ok-text.ensures)
 
 pub returns : goal.returns
 returns g c =

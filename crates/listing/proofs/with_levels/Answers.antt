@@ -9,6 +9,6 @@ returns g c =
     IfOk-weaker c.with-level-lines.result _ _
     (λ t is.
     is
-    ∙ ap (λ (bs : List ℕ). bs ++ lines_to ls (length ls)) c.in-ok-with-heading.ensures
+    ∙ ap (λ (bs : List ℕ). bs ++ lines_to ls (length ls)) c.in_ok-with-heading.ensures
     ∙ append_assoc (string_bytes c.args.text) (heading ls) (lines_to ls (length ls)))
     c.with-level-lines.ensures

@@ -8,7 +8,7 @@ use Rattle.order_frame.proofs.refusal_of.Goals as goal
 pub unreachable-requires : goal.unreachable-requires
 unreachable-requires c =
     let few : length (vec_items c.args.file.now.levels) ≤ 24 = omega (arith, c.args.file.now.few_levels, c.args.file.now.levels.ok.0) in
-    c.in-default.not-Some _ (c.record_line.ensures ∙ found (filed c.args.file.now) c.args.denial (located (filed c.args.file.now) c.args.denial few c.requires))
+    c.in_default.not-Some _ (c.record_line.ensures ∙ found (filed c.args.file.now) c.args.denial (located (filed c.args.file.now) c.args.denial few c.requires))
 
 pub returns : goal.returns
 returns c =

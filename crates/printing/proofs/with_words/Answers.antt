@@ -9,8 +9,8 @@ unfolding lib.Utf8.encode
 loop-word-preserved c =
     word_more c.args.words.now c.loop-word.word-index _ c.loop-word-test.true _ _ _ _
     c.loop-word.invariant
-    c.in-ok-push.ensures.bytes
-    c.in-ok-line.ensures
+    c.in_ok-push.ensures.bytes
+    c.in_ok-line.ensures
 
 pub returns : goal.returns
 returns c =

@@ -4,10 +4,10 @@ use Rattle.frames.proofs.Scans.{blank}
 use Rattle.frames.specs.Stacks.{stands_parts, standing_next, standing_stop, standing_end}
 use Rattle.frames.proofs.listed.count_standing.Goals as goal
 
-pub returns-in-default : goal.returns-in-default
-returns-in-default c =
+pub returns-in_default : goal.returns-in_default
+returns-in_default c =
     let xs = c.args.storeys.now in
-    omega (arith, c.loop-storey.invariant, standing_stop xs c.loop-storey.storey-index blank c.loop-storey.count c.loop-storey.height.0 c.loop-storey-test.true c.in-default.ensures)
+    omega (arith, c.loop-storey.invariant, standing_stop xs c.loop-storey.storey-index blank c.loop-storey.count c.loop-storey.height.0 c.loop-storey-test.true c.in_default.ensures)
 
 pub loop-storey-preserved : goal.loop-storey-preserved
 loop-storey-preserved c =

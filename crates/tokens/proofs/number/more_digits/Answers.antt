@@ -3,17 +3,17 @@ use Rattle.tokens.specs.Numbers.{onward}
 use Rattle.tokens.proofs.Digits.{digit_more, digit_none, digit_all, ten_more, ten_most}
 use Rattle.tokens.proofs.number.more_digits.Goals as goal
 
-pub overflow-mul-value : goal.overflow-mul-value
-overflow-mul-value c = omega (arith, ten_most (c.loop-digit.digit-index + 1) (omega arith))
+pub overflow_mul-value : goal.overflow_mul-value
+overflow_mul-value c = omega (arith, ten_most (c.loop-digit.digit-index + 1) (omega arith))
 
-pub overflow-add-value : goal.overflow-add-value
-overflow-add-value c = omega (arith, ten_most (c.loop-digit.digit-index + 1) (omega arith))
+pub overflow_add-value : goal.overflow_add-value
+overflow_add-value c = omega (arith, ten_most (c.loop-digit.digit-index + 1) (omega arith))
 
-pub returns-in-default : goal.returns-in-default
-returns-in-default c = record { bound = tt; value = sym (digit_none c.loop-digit.value c.args.digits.now c.loop-digit.digit-index (omega arith) (inl (omega arith))) ∙ c.loop-digit.invariant.1 }
+pub returns-in_default : goal.returns-in_default
+returns-in_default c = record { bound = tt; value = sym (digit_none c.loop-digit.value c.args.digits.now c.loop-digit.digit-index (omega arith) (inl (omega arith))) ∙ c.loop-digit.invariant.1 }
 
-pub returns-in-default·2 : goal.returns-in-default·2
-returns-in-default·2 c = record { bound = tt; value = sym (digit_none c.loop-digit.value c.args.digits.now c.loop-digit.digit-index (omega arith) (inr (omega arith))) ∙ c.loop-digit.invariant.1 }
+pub returns-in_default-2 : goal.returns-in_default-2
+returns-in_default-2 c = record { bound = tt; value = sym (digit_none c.loop-digit.value c.args.digits.now c.loop-digit.digit-index (omega arith) (inr (omega arith))) ∙ c.loop-digit.invariant.1 }
 
 pub loop-digit-preserved : goal.loop-digit-preserved
 loop-digit-preserved c = (

@@ -9,13 +9,13 @@ use Rattle.frames.proofs.frame.Frame.top.Goals as goal
 pub unreachable-requires : goal.unreachable-requires
 unreachable-requires g c =
     let ls = g.Self.Frame.list c.args.self.now in
-    omega (arith, c.count-below-end.ensures, none_over ls c.loop-below.below (sym c.in-default.ensures))
+    omega (arith, c.count-below-end.ensures, none_over ls c.loop-below.below (sym c.in_default.ensures))
 
-pub unreachable-requires-in-default-above : goal.unreachable-requires-in-default-above
-unreachable-requires-in-default-above g c =
+pub unreachable-requires-in_default-above : goal.unreachable-requires-in_default-above
+unreachable-requires-in_default-above g c =
     let ls = g.Self.Frame.list c.args.self.now in
     let s = limits ls (g.met.Self.Frame.sound c.args.self.now) in
-    let high = raised_none c.loop-below.top c.in-Some.level.height (sym c.in-default-above.ensures) in
+    let high = raised_none c.loop-below.top c.in-Some.level.height (sym c.in_default-above.ensures) in
     omega (arith, ap (λ (t : LevelHeight). t.0) c.loop-below.invariant, total_within (λ (l : Level). l.height.0) ls c.loop-below.below c.in-Some.level (sym c.in-Some.ensures))
 
 pub loop-below-preserved : goal.loop-below-preserved

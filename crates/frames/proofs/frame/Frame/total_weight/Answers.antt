@@ -7,10 +7,10 @@ use Rattle.frames.proofs.frame.Frame.total_weight.Goals as goal
 pub unreachable-requires : goal.unreachable-requires
 unreachable-requires g c =
     let ls = g.Self.Frame.list c.args.self.now in
-    omega (arith, c.count-i-end.ensures, none_over ls c.loop-i.i (sym c.in-default.ensures))
+    omega (arith, c.count-i-end.ensures, none_over ls c.loop-i.i (sym c.in_default.ensures))
 
-pub overflow-add-sum : goal.overflow-add-sum
-overflow-add-sum g c =
+pub overflow_add-sum : goal.overflow_add-sum
+overflow_add-sum g c =
     let ls = g.Self.Frame.list c.args.self.now in
     let s = limits ls (g.met.Self.Frame.sound c.args.self.now) in
     omega (arith, c.loop-i.invariant, total_within (λ (l : Level). l.weight) ls c.loop-i.i c.in-Some.level (sym c.in-Some.ensures))

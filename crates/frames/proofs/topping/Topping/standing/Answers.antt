@@ -12,7 +12,7 @@ returns g c =
     let t = c.args.self.now in
     let ls = g.F.Frame.list t.below in
     let own = own_storeys t.own in
-    let n = c.count-standing.ensures ∙ same_standing c.count.ensures (ap (λ (h : LevelHeight). h.0) c.top.ensures) c.levels.ensures in
+    let n = c.count_standing.ensures ∙ same_standing c.count.ensures (ap (λ (h : LevelHeight). h.0) c.top.ensures) c.levels.ensures in
     record {
       whole = omega (arith, n, length-append ls (standing (length ls) (height_of ls) own));
       few = (limits (stacked ls own) (stacked_sound ls own (g.met.F.Frame.sound t.below))).few;

@@ -16,19 +16,19 @@ loop-init g c = (
 pub record-requires : goal.record-requires
 record-requires g c = omega (arith, c.loop.invariant.0.line)
 
-pub returns-in-err-record : goal.returns-in-err-record
-returns-in-err-record g c = record {
-  read = at_fault vec_items c.from-residual.result _ _ c.from-residual.ensures.1 (faulty c.loop.invariant.0 _ c.loop-test.true c.in-err-record.ensures.read);
-  line = IfOk-from_err c.from-residual.result _ c.from-residual.ensures.0;
-  count = IfOk-from_err c.from-residual.result _ c.from-residual.ensures.0;
+pub returns-in_err-record : goal.returns-in_err-record
+returns-in_err-record g c = record {
+  read = at_fault vec_items c.from_residual.result _ _ c.from_residual.ensures.1 (faulty c.loop.invariant.0 _ c.loop-test.true c.in_err-record.ensures.read);
+  line = IfOk-from_err c.from_residual.result _ c.from_residual.ensures.0;
+  count = IfOk-from_err c.from_residual.result _ c.from_residual.ensures.0;
 }
 
 pub loop-preserved : goal.loop-preserved
 loop-preserved g c = (
   subst (λ xs. Going g.R.Record.layout c.args.count (place c.args.self.now) (c.loop.counter + 1) xs (place c.record.new.self))
-      (sym c.in-ok-push.ensures.items)
-      (one_more c.loop.invariant.0 c.in-ok-record.field-0 (place c.record.new.self) c.loop-test.true c.in-ok-record.ensures.read c.in-ok-record.ensures.line),
-  omega (arith, c.in-ok-push.ensures.len, c.loop.invariant.1),
+      (sym c.in_ok-push.ensures.items)
+      (one_more c.loop.invariant.0 c.in_ok-record.field-0 (place c.record.new.self) c.loop-test.true c.in_ok-record.ensures.read c.in_ok-record.ensures.line),
+  omega (arith, c.in_ok-push.ensures.len, c.loop.invariant.1),
 )
 
 pub returns : goal.returns
