@@ -9,10 +9,10 @@ returns-in-empty c =
     let few : length c.args.words.now < 1 = grind arith in
     line_end string_bytes _ (string_bytes c.args.text) _ (map spelled ws) (none_joined ws _ few) c.ended.ensures
 
-pub returns-in_ok-with_words : goal.returns-in_ok-with_words
-returns-in_ok-with_words c =
+pub returns-in_ok-with_words-in-len1-up : goal.returns-in_ok-with_words-in-len1-up
+returns-in_ok-with_words-in-len1-up c =
     let ws = c.args.words.now in
     let some : 1 ≤ length c.args.words.now = grind arith in
     line_end string_bytes _ (string_bytes c.args.text) _ (map spelled ws)
-    (some_joined ws _ _ _ _ some c.in_ok-with-word.ensures c.in_ok-with_words.ensures)
+    (some_joined ws _ _ _ _ some c.in_ok-with_word-in-len1-up.ensures c.in_ok-with_words-in-len1-up.ensures)
     c.ended-in-len1-up.ensures
