@@ -46,7 +46,7 @@ impl<'a> Reader<'a> {
     // The record that the next line is.
     fn record<R: Record + Drop>(&mut self) -> Result<R, Fault>
         requires { self.old.line < 2 ^ 31 }
-        ensures read { Read result (place self.new) (record_line layout (place self.old)) }
+        ensures read { Read result (place self.new) (record_line R.layout (place self.old)) }
         ensures line { OnOk result (self.new.line ≡ self.old.line + 1) }
     {
         let mut line = self.line()?;
@@ -82,7 +82,7 @@ impl<'a> Reader<'a> {
     // So many records, one a line.
     fn records<R: Record + Drop>(&mut self, count: u32, heap: Global) -> Result<Vec<R>, NotRead>
         requires { self.old.line + count < 2 ^ 31 }
-        ensures read { Reads vec_items result (place self.new) (record_lines layout count (place self.old)) }
+        ensures read { Reads vec_items result (place self.new) (record_lines R.layout count (place self.old)) }
         ensures line { OnOk result (self.new.line ≡ self.old.line + count) }
         ensures count { IfOk result (λ v. vec_len v ≡ count) }
     {
@@ -101,7 +101,7 @@ impl<'a> Reader<'a> {
         heap: Global,
     ) -> Result<Vec<R>, NotRead>
         requires { self.old.line + most < 2 ^ 30 }
-        ensures read { Reads vec_items result (place self.new) (section_of_up_to most layout name.now (place self.old)) }
+        ensures read { Reads vec_items result (place self.new) (section_of_up_to most R.layout name.now (place self.old)) }
         ensures line { IfOk result (λ v. (self.new.line ≤ self.old.line + most + 1) × (vec_len v ≤ most)) }
     {
         let count = self.count(0, most, name)?;

@@ -6,8 +6,8 @@ use Rattle.order_file.proofs.read.Goals as goal
 
 pub returns : goal.returns
 returns c = record {
-  told = c.read-file.ensures;
-  exact = exactly c.read-file.result c.args.file.now c.read-file.ensures;
-  front = subst (ReadAs c.read-file.result) (file_front c.args.file.now) c.read-file.ensures;
-  lines = standing c.read-file.result c.args.file.now c.read-file.ensures;
+  told = c.read_file.ensures;
+  exact = exactly c.read_file.result c.args.file.now c.read_file.ensures;
+  front = subst (ReadAs c.read_file.result) (file_front c.args.file.now) c.read_file.ensures;
+  lines = standing c.read_file.result c.args.file.now c.read_file.ensures;
 }
