@@ -16,7 +16,7 @@ returns c =
     let few : length (vec_items c.args.file.now.levels) ≤ 24 = omega (arith, c.args.file.now.few_levels, c.args.file.now.levels.ok.0) in
     let there = c.in-Some.ensures ∙ found f c.args.denial (located f c.args.denial few c.requires) in
     let line : c.in-Some.line ≡ blamed_line (filed c.args.file.now) c.args.denial = cc in
-    let is = c.on-line.ensures ∙ ap (λ (n : ℕ). refusal (denial_number c.args.denial) n (denial_place c.args.denial)) line in
+    let is = c.on_line.ensures ∙ ap (λ (n : ℕ). refusal (denial_number c.args.denial) n (denial_place c.args.denial)) line in
     record {
       told = λ bytes h. denied_outcome f bytes c.args.denial _ h c.requires is;
       blame = λ bytes h lines. blames f bytes c.args.denial _ h lines few c.requires is;
