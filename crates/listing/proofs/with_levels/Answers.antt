@@ -6,9 +6,9 @@ use Rattle.listing.proofs.with_levels.Goals as goal
 pub returns : goal.returns
 returns g c =
     let ls = g.F.Frame.list c.args.frame.now in
-    IfOk-weaker c.with-level-lines.result _ _
+    IfOk-weaker c.with_level_lines.result _ _
     (λ t is.
     is
-    ∙ ap (λ (bs : List ℕ). bs ++ lines_to ls (length ls)) c.in_ok-with-heading.ensures
+    ∙ ap (λ (bs : List ℕ). bs ++ lines_to ls (length ls)) c.in_ok-with_heading.ensures
     ∙ append_assoc (string_bytes c.args.text) (heading ls) (lines_to ls (length ls)))
-    c.with-level-lines.ensures
+    c.with_level_lines.ensures
