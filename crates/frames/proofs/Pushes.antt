@@ -1,11 +1,10 @@
 -- One storey more onto what stands.
-use Rattle.std.proofs.Common.{◌≡◌, ℕ, ◌+◌, ◌-◌, ◌<◌, ◌≤◌, true, not, ◌&&◌, ltb, leb, List, [], ◌∷◌, ◌++◌, length, take, is_some, None, sym, ap, ◌∙◌, append_assoc, arith, length-append}
+use Rattle.std.proofs.Common.{◌≡◌, ℕ, ◌+◌, ◌<◌, ◌≤◌, true, not, ltb, leb, List, [], ◌∷◌, ◌++◌, length, take, is_some, None, sym, ap, ◌∙◌, append_assoc, arith, length-append}
 use Rattle.std.proofs.lemmas.Bool.{leb-false, lt-ltb, and_from, cond_both, cond-true}
 use Rattle.records.specs.declared.level.Level.{Level}
-use Rattle.frames.specs.declared.denial.FrameDenial.{FrameDenial}
 use Rattle.frames.specs.declared.denial.FrameDenial.TheVariants.{TooManyLevels}
 use Rattle.frames.specs.Levels.{height_of}
-use Rattle.frames.specs.Steps.{step_denial, stands, standing, stacked}
+use Rattle.frames.specs.Steps.{stands, standing, stacked}
 use Rattle.frames.specs.Toppings.{add_denial, own_count}
 use Rattle.frames.specs.Cases.{one_none}
 use Rattle.frames.specs.Lists.{total_append}

@@ -1,5 +1,5 @@
 -- What is known of a kit's list.
-use Rattle.std.specs.Prelude.{◌≡◌, ℕ, zero, suc, ◌+◌, ◌-◌, ◌*◌, ◌<◌, ◌≤◌, true, false, not, List, [], ◌∷◌, ◌++◌, length, replicate, is_some, Some, None, nat_le, nat_lt, refl}
+use Rattle.std.specs.Prelude.{◌≡◌, ℕ, zero, suc, ◌+◌, ◌-◌, ◌*◌, ◌<◌, ◌≤◌, true, false, not, [], ◌∷◌, length, replicate, is_some, Some, None, nat_le, nat_lt, refl}
 use Rattle.std.proofs.Common.{sym, ap, ◌∙◌, arith, suc-mul, length-append}
 use Rattle.std.proofs.lemmas.List.{get_or-replicate, get_or_append_left, get_or_at, length-replicate}
 use Rattle.std.proofs.lemmas.Bool.{and_from, and_parts, leb-true, ltb-false, le-ltb, not_from_true, cond-false}
@@ -10,7 +10,7 @@ use Rattle.records.specs.Ranges.{from_to, level_fits, weight_fits, height_fits}
 use Rattle.frames.specs.declared.denial.FrameDenial.TheVariants.{KitOutOfRange, KitTooHigh}
 use Rattle.frames.specs.Kits.{kit_in_range, kit_denial, kit_list}
 use Rattle.frames.specs.KitFrames.{Alike}
-use Rattle.frames.specs.Levels.{Sound, level_at, all_fit, total}
+use Rattle.frames.specs.Levels.{Sound, all_fit, total}
 use Rattle.frames.specs.Cases.{two_passed}
 use Rattle.frames.specs.Lists.{total_append, fit_append, sound_from}
 use Rattle.frames.specs.Places.{at_inside, at_beyond}

@@ -1,5 +1,5 @@
 -- Which numbers make a kit, and the list that they describe.
-use Rattle.std.specs.Prelude.{ℕ, ◌-◌, ◌*◌, Bool, cond, not, ◌&&◌, List, [], ◌∷◌, ◌++◌, replicate, Some, None, Option, nat_lt}
+use Rattle.std.specs.Prelude.{◌-◌, ◌*◌, Bool, cond, not, ◌&&◌, List, [], ◌∷◌, ◌++◌, replicate, Some, None, Option, nat_lt}
 use Rattle.records.specs.declared.kit_numbers.KitNumbers.{KitNumbers}
 use Rattle.records.specs.declared.level.Level.{Level}
 use Rattle.records.specs.Kits.{floor, roof}

@@ -1,13 +1,13 @@
 -- What stands of the storeys put onto a list.
-use Rattle.std.specs.Prelude.{◌≡◌, ℕ, suc, ◌+◌, ◌<◌, ◌≤◌, true, false, not, ◌&&◌, List, [], ◌∷◌, ◌++◌, length, get_or, take, drop, is_some, nat_lt, slice_index_or, refl}
-use Rattle.std.proofs.Common.{sym, ap, ◌∙◌, arith, length-append}
+use Rattle.std.specs.Prelude.{◌≡◌, ℕ, suc, ◌+◌, ◌<◌, ◌≤◌, true, false, List, [], ◌∷◌, ◌++◌, length, get_or, take, drop, nat_lt, slice_index_or, refl}
+use Rattle.std.proofs.Common.{ap, ◌∙◌, arith, length-append}
 use Rattle.std.proofs.lemmas.List.{at_drop_more, at_drop_all}
 use Rattle.std.proofs.lemmas.Bool.{ltb-true, ltb-false, and_parts, and_from, not-true, cond_both, cond-true, cond-false}
 use Rattle.records.specs.declared.level.Level.{Level}
 use Rattle.records.specs.Ranges.{level_fits}
 use Rattle.frames.specs.declared.denial.FrameDenial.TheVariants.{OutOfRange, TooHigh}
 use Rattle.frames.specs.Levels.{Sound, all_fit, height_of, level_at}
-use Rattle.frames.specs.Steps.{step_denial, stands, standing, stacked}
+use Rattle.frames.specs.Steps.{stands, standing, stacked}
 use Rattle.frames.specs.Cases.{two_passed}
 use Rattle.frames.specs.Lists.{limits, total_append, fit_append, sound_from}
 use Rattle.frames.specs.Places.{at_take}

@@ -1,5 +1,5 @@
 -- One level's line more.
-use Rattle.std.proofs.Common.{◌≡◌, ℕ, suc, ◌+◌, List, [], ◌++◌, Some, sym, ap, ◌∙◌, append_assoc, add-one}
+use Rattle.std.proofs.Common.{◌≡◌, ℕ, ◌+◌, List, [], ◌++◌, Some, sym, ap, ◌∙◌, append_assoc, add-one}
 use Rattle.records.specs.declared.level.Level.{Level}
 use Rattle.tokens.specs.Text.{line_of}
 use Rattle.frames.specs.Levels.{level_at, level_height}

@@ -1,5 +1,5 @@
 -- Some accepted file has the same lines before the faulty one: what was read so far, and then anything.
-use Rattle.std.proofs.Common.{◌≡◌, ℕ, zero, suc, ◌+◌, ◌-◌, ◌<◌, ◌≤◌, Bool, true, false, cond, ◌&&◌, eqb, leb, ◌⊎◌, List, [], ◌∷◌, length, pos, Some, None, Ok, Err, codes, Option, Result, sym, refl, ap, ◌∙◌, subst, inl, inr, suc-add, zero-add, arith}
+use Rattle.std.proofs.Common.{◌≡◌, ℕ, zero, suc, ◌+◌, ◌-◌, ◌≤◌, Bool, true, false, cond, ◌&&◌, eqb, leb, ◌⊎◌, List, [], ◌∷◌, length, pos, Some, None, Ok, Err, codes, Option, Result, sym, refl, ap, ◌∙◌, subst, inl, inr, suc-add, zero-add, arith}
 use Rattle.std.specs.Option.{option_map, option_to_list}
 use Rattle.std.specs.List.{AllByRecursion as All}
 use Rattle.std.proofs.lemmas.Bool.{cases_Bool, cond-true, cond-false, eqb-false}
@@ -23,7 +23,7 @@ use Rattle.order_file.specs.File.{Filed, kit_section, level_section, load_sectio
 use Rattle.order_file.specs.First.{Shares}
 use Rattle.order_file.specs.Limits.{KitShort, LevelShort, LoadShort, CardShort, Fits}
 use Rattle.order_file.specs.Records.{read_kit, read_card}
-use Rattle.order_file.specs.Render.{kit_words, level_words, load_words, card_words, count_words, lines_of, section_text, render}
+use Rattle.order_file.specs.Render.{kit_words, level_words, card_words, count_words, lines_of, section_text, render}
 use Rattle.order_file.specs.Sections.{Place, next, numbered_line, to_the_end, laid_out, record_line, record_lines, count_line, section_of_up_to}
 use Rattle.order_file.proofs.Layouts.{kit_lays, level_lays, load_lays, card_lays}
 use Rattle.order_file.proofs.Parses.{line_parses, lines_parse, count_parses, count_ends, section_parses}

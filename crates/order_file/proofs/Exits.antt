@@ -1,5 +1,5 @@
 -- The exit at a fault.
-use Rattle.std.proofs.Common.{◌≡◌, IsErrAnd, Ok, Err, Result, sym, ap, ◌∙◌, subst}
+use Rattle.std.proofs.Common.{◌≡◌, IsErrAnd, Err, Result, sym, ap, ◌∙◌, subst}
 use Rattle.std.proofs.lemmas.Result.{err_from_is_err_and}
 use Rattle.tokens.specs.declared.fault.Fault.{Fault}
 use Rattle.order_file.specs.declared.not_read.NotRead.{NotRead}

@@ -9,7 +9,7 @@ use Rattle.tokens.specs.TextLines.{Left, heading_of}
 use Rattle.tokens.specs.declared.fault.Fault.{Fault}
 use Rattle.tokens.specs.declared.fault.Fault.TheVariants.{Layout, Count}
 use Rattle.tokens.proofs.Options.{none_some}
-use Rattle.order_file.specs.File.{Filed, kit_section, card_section, most_levels, sections, and_no_more, order_file_of}
+use Rattle.order_file.specs.File.{Filed, most_levels, sections, and_no_more, order_file_of}
 use Rattle.order_file.specs.First.{Shares}
 use Rattle.order_file.specs.Limits.{Fits}
 use Rattle.order_file.specs.Records.{read_kit, read_level, read_load, read_card}

@@ -1,5 +1,5 @@
 -- A file is read alike from its first bytes, since what is accepted is short.
-use Rattle.std.proofs.Common.{◌≡◌, ℕ, zero, suc, ◌+◌, ◌-◌, ◌*◌, ◌<◌, ◌≤◌, Bool, true, false, cond, ◌&&◌, eqb, leb, List, [], ◌∷◌, length, take, Some, None, Ok, Err, codes, Option, Result, sym, refl, ap, ◌∙◌, subst, ⊎_elim, suc-mul, arith}
+use Rattle.std.proofs.Common.{◌≡◌, ℕ, zero, suc, ◌+◌, ◌-◌, ◌*◌, ◌<◌, ◌≤◌, Bool, true, false, cond, ◌&&◌, eqb, leb, List, [], ◌∷◌, length, take, Some, None, Ok, Err, Option, Result, sym, refl, ap, ◌∙◌, subst, ⊎_elim, suc-mul, arith}
 use Rattle.std.specs.Option.{option_map}
 use Rattle.std.proofs.lemmas.Bool.{cases_lt}
 use Rattle.records.specs.declared.kit_numbers.KitNumbers.{KitNumbers}
@@ -10,8 +10,8 @@ use Rattle.tokens.specs.declared.fault.Fault.TheVariants.{Layout, Count}
 use Rattle.tokens.proofs.Cutting.{cut_none_front, cut_some_front, cut_late_front}
 use Rattle.tokens.proofs.Lays.{Lays, Names, heading, onto_line, joined_short}
 use Rattle.tokens.proofs.Options.{none_some}
-use Rattle.order_file.specs.File.{Filed, kit_section, card_section, most_levels, sections, and_no_more, order_file_of}
-use Rattle.order_file.specs.Records.{read_kit, read_level, read_load, read_card}
+use Rattle.order_file.specs.File.{Filed, most_levels, sections, and_no_more, order_file_of}
+use Rattle.order_file.specs.Records.{read_kit}
 use Rattle.order_file.specs.Sections.{Place, next, numbered_line, to_the_end, laid_out, record_line, record_lines, count_line, section_of_up_to}
 use Rattle.order_file.proofs.Layouts.{kit_lays, level_lays, load_lays, card_lays}
 use Rattle.order_file.proofs.Parses.{count_parses}

@@ -1,5 +1,5 @@
 -- A part of a file is read from the text that writes it, and from no other.
-use Rattle.std.proofs.Common.{◌≡◌, ℕ, zero, suc, ◌+◌, ◌≤◌, true, cond, ◌&&◌, leb, List, [], ◌∷◌, ◌++◌, length, Some, None, Ok, Err, Option, Result, sym, refl, ap, ◌∙◌, subst, arith}
+use Rattle.std.proofs.Common.{◌≡◌, ℕ, zero, suc, ◌+◌, ◌≤◌, true, ◌&&◌, leb, List, [], ◌∷◌, ◌++◌, length, Some, None, Ok, Option, Result, sym, refl, ap, ◌∙◌, subst, arith}
 use Rattle.std.specs.Option.{option_map}
 use Rattle.std.specs.List.{AllByRecursion as All}
 use Rattle.std.proofs.lemmas.Bool.{and_parts, and_from, leb-true, le-leb, cond-true}
@@ -8,7 +8,6 @@ use Rattle.tokens.specs.Numbers.{Small}
 use Rattle.tokens.specs.Text.{joined, line_of}
 use Rattle.tokens.specs.TextLines.{Left, heading_of}
 use Rattle.tokens.specs.declared.fault.Fault.{Fault}
-use Rattle.tokens.specs.declared.fault.Fault.TheVariants.{Count}
 use Rattle.tokens.proofs.Cutting.{lacks, cut_here, cut_back}
 use Rattle.tokens.proofs.Lays.{Lays, Names, heading, onto_line, line_onto, joined_ends}
 use Rattle.order_file.specs.Render.{count_words, lines_of, section_text}

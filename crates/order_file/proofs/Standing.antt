@@ -1,13 +1,12 @@
 -- On which line of the file each record stands.
-use Rattle.std.proofs.Common.{◌≡◌, ℕ, zero, suc, ◌+◌, ◌-◌, ◌<◌, ◌≤◌, true, List, [], ◌∷◌, length, get_or, Some, None, codes, decimal, Option, sym, refl, ap, ◌∙◌, subst, suc-add, zero-add, arith}
+use Rattle.std.proofs.Common.{◌≡◌, ℕ, zero, suc, ◌+◌, ◌-◌, ◌<◌, ◌≤◌, true, List, [], ◌∷◌, length, get_or, Some, codes, Option, sym, ap, ◌∙◌, subst, suc-add, zero-add, arith}
 use Rattle.std.specs.Option.{option_map, option_to_list}
 use Rattle.std.specs.List.{AllByRecursion as All}
-use Rattle.records.specs.declared.kit_numbers.KitNumbers.{KitNumbers}
 use Rattle.tokens.specs.Text.{joined, line_of}
 use Rattle.tokens.specs.TextLines.{Left, then}
 use Rattle.tokens.proofs.Cutting.{lacks, cut_here}
 use Rattle.tokens.proofs.Lays.{Lays, Names, joined_ends}
-use Rattle.order_file.specs.File.{Filed, most_levels}
+use Rattle.order_file.specs.File.{Filed}
 use Rattle.order_file.specs.Limits.{Fits}
 use Rattle.order_file.specs.Lines.{line_after, line_at, kits, level_line, load_line, card_line, LinedUp}
 use Rattle.order_file.specs.Render.{count_words, lines_of, section_text, kit_words, level_words, load_words, card_words, render}

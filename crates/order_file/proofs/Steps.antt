@@ -1,11 +1,11 @@
 -- One part of a file after another.
-use Rattle.std.proofs.Common.{◌≡◌, ℕ, Bool, true, false, cond, List, Ok, Err, Option, Result, sym, refl, ap, ◌∙◌, arith}
+use Rattle.std.proofs.Common.{◌≡◌, ℕ, Bool, true, false, cond, List, Ok, Err, Option, Result, refl, ap, ◌∙◌, arith}
 use Rattle.records.specs.declared.card.Card.{Card}
 use Rattle.records.specs.declared.kit_numbers.KitNumbers.{KitNumbers}
 use Rattle.records.specs.declared.level.Level.{Level}
 use Rattle.records.specs.declared.line.Line.{Line}
 use Rattle.tokens.specs.declared.fault.Fault.{Fault}
-use Rattle.order_file.specs.File.{Filed, kit_section, level_section, load_section, card_section, sections}
+use Rattle.order_file.specs.File.{kit_section, level_section, load_section, card_section, sections}
 use Rattle.order_file.specs.Sections.{Place, next}
 
 pub err_ok : {A E P : Type 0} {x : A} {e : E} → ◌≡◌ {A = Result A E} (Err e) (Ok x) → P

@@ -1,15 +1,13 @@
 -- A whole file is read from the text that its records make, and from no other.
-use Rattle.std.proofs.Common.{◌≡◌, ℕ, zero, suc, ◌≤◌, Bool, true, false, cond, eqb, List, [], ◌∷◌, length, Some, None, Ok, Err, codes, Option, Result, sym, refl, ap, ◌∙◌, subst, ⊎_elim, arith}
+use Rattle.std.proofs.Common.{◌≡◌, ℕ, zero, suc, ◌≤◌, cond, eqb, List, [], ◌∷◌, length, Some, None, Ok, codes, Option, Result, refl, ap, ◌∙◌, subst, arith}
 use Rattle.std.specs.Option.{option_to_list}
 use Rattle.std.specs.List.{AllByRecursion as All}
-use Rattle.std.proofs.lemmas.Bool.{cases_Bool, cond-true, cond-false, eqb-true, eqb-false}
-use Rattle.records.specs.declared.card.Card.{Card}
 use Rattle.records.specs.declared.kit_numbers.KitNumbers.{KitNumbers}
 use Rattle.tokens.specs.declared.fault.Fault.{Fault}
 use Rattle.tokens.proofs.Lays.{Names}
 use Rattle.order_file.specs.File.{Filed, kit_section, card_section, most_levels, sections, and_no_more, order_file_of}
 use Rattle.order_file.specs.Limits.{KitShort, LevelShort, LoadShort, CardShort, Fits}
-use Rattle.order_file.specs.Records.{read_kit, read_card}
+use Rattle.order_file.specs.Records.{read_kit}
 use Rattle.order_file.specs.Render.{kit_words, level_words, load_words, card_words, lines_of, section_text, render}
 use Rattle.order_file.specs.Sections.{Place, next, record_line}
 use Rattle.order_file.proofs.Layouts.{kit_lays, level_lays, load_lays, card_lays}

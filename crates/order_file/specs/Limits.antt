@@ -1,5 +1,5 @@
 -- Which records a file can hold: numbers of at most nine digits, and counts within their limits.
-use Rattle.std.specs.Prelude.{ℕ, ◌≤◌, List, [], ◌∷◌, length, unsigned_abs}
+use Rattle.std.specs.Prelude.{◌≤◌, [], ◌∷◌, length, unsigned_abs}
 use Rattle.std.specs.Option.{option_to_list}
 use Rattle.std.specs.List.{AllByRecursion as All}
 use Rattle.records.specs.declared.card.Card.{Card}

@@ -1,5 +1,5 @@
 -- How each record lies in its line: its fields in their order.
-use Rattle.std.specs.Prelude.{ℕ, Some, Option}
+use Rattle.std.specs.Prelude.{Some, Option}
 use Rattle.records.specs.declared.card.Card.{Card}
 use Rattle.records.specs.declared.kit_numbers.KitNumbers.{KitNumbers}
 use Rattle.records.specs.declared.level.Level.{Level}

@@ -1,5 +1,5 @@
 -- Each denial of a file's frame has its reason.
-use Rattle.std.proofs.Common.{◌≡◌, ℕ, ◌+◌, ◌-◌, ◌*◌, ◌<◌, ◌≤◌, Bool, true, false, cond, not, ◌&&◌, ltb, leb, ◌⊎◌, List, [], ◌∷◌, ◌++◌, length, take, is_some, Some, None, Ok, Err, Option, Result, sym, refl, ap, ◌∙◌, subst, inl, inr, append_assoc, append-nil, arith, length-append}
+use Rattle.std.proofs.Common.{◌≡◌, ℕ, ◌+◌, ◌-◌, ◌*◌, ◌<◌, ◌≤◌, Bool, true, false, cond, not, ltb, leb, ◌⊎◌, List, [], ◌∷◌, ◌++◌, length, take, is_some, Some, None, Ok, Err, Option, Result, sym, refl, ap, ◌∙◌, subst, inl, inr, append_assoc, append-nil, arith, length-append}
 use lib.Seq.{take-append_seam}
 use Rattle.std.proofs.lemmas.Bool.{cond-true, ltb-true, ltb-false, leb-true, leb-false, lt-ltb, and_from}
 use Rattle.records.specs.declared.kit_numbers.KitNumbers.{KitNumbers}
@@ -12,10 +12,9 @@ use Rattle.frames.specs.declared.denial.NotLaid.TheVariants.{Denied, NoMemory}
 use Rattle.frames.specs.Kits.{kit_in_range, kit_denial, kit_list}
 use Rattle.frames.specs.Levels.{Sound, level_at, level_height, height_of}
 use Rattle.frames.specs.Steps.{step_denial, stands}
-use Rattle.frames.specs.Tables.{or_else, denial_from, lay_denial, IsInRange, IsOutOfRange}
-use Rattle.frames.specs.Toppings.{add_denial}
-use Rattle.frames.specs.Cases.{one_some, one_none, two_some}
-use Rattle.frames.specs.KitLists.{kit_sound, kit_length, allowed, ranged}
+use Rattle.frames.specs.Tables.{or_else, denial_from}
+use Rattle.frames.specs.Cases.{one_some, two_some}
+use Rattle.frames.specs.KitLists.{kit_sound, kit_length, ranged}
 use Rattle.frames.specs.Lists.{limits, total_append}
 use Rattle.frames.specs.Places.{at_high}
 use Rattle.frames.specs.Stacks.{stacked_sound}

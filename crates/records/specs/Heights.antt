@@ -1,5 +1,5 @@
 -- Level heights are running sums of storey heights.
-use Rattle.std.specs.Prelude.{ℕ, ◌+◌, cond, Some, None, Option, nat_le}
+use Rattle.std.specs.Prelude.{◌+◌, cond, Some, None, Option, nat_le}
 use Rattle.records.specs.declared.height.StoreyHeight.{StoreyHeight}
 use Rattle.records.specs.declared.height.LevelHeight.{LevelHeight}
 use Rattle.records.specs.Limits.{height_limit}

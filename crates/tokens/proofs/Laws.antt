@@ -1,5 +1,5 @@
 -- Each field is read from what it is written as, and from nothing else.
-use Rattle.std.proofs.Common.{◌≡◌, ℕ, zero, suc, ◌<◌, ◌≤◌, Bool, true, false, cond, not, eqb, leb, List, [], ◌∷◌, length, get_or, ℤ, pos, negsuc, neg_ℤ, nat_abs, Some, None, codes, decimal, Option, sym, refl, ap, ◌∙◌, subst, ⊎_elim, arith}
+use Rattle.std.proofs.Common.{◌≡◌, ℕ, zero, suc, ◌<◌, ◌≤◌, true, cond, not, eqb, leb, List, [], ◌∷◌, length, get_or, ℤ, pos, negsuc, neg_ℤ, nat_abs, Some, None, codes, decimal, Option, sym, refl, ap, ◌∙◌, subst, ⊎_elim, arith}
 use Rattle.std.specs.Option.{option_map, option_to_list}
 use Rattle.std.specs.Int.{is_in_range}
 use Rattle.std.specs.Char.{is_ascii_digit}
@@ -15,7 +15,6 @@ use Rattle.records.specs.declared.card.Group.{Group}
 use Rattle.records.specs.declared.card.Group.TheVariants.{B, A, AA}
 use Rattle.records.specs.declared.card.Walls.{Walls}
 use Rattle.records.specs.declared.card.Walls.TheVariants.{Tied, Detached}
-use Rattle.records.specs.declared.height.StoreyHeight.{StoreyHeight}
 use Rattle.tokens.specs.Fields.{as_number, as_height, as_load, as_period, as_mark, storey}
 use Rattle.tokens.specs.Marks.{soil_named, group_named, walls_named}
 use Rattle.tokens.specs.Numbers.{Small, number_of}

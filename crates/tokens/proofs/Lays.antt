@@ -1,5 +1,5 @@
 -- A record is read from the words that write it, and from no others: one step for each field.
-use Rattle.std.proofs.Common.{◌≡◌, ℕ, ◌+◌, ◌*◌, ◌≤◌, true, cond, List, [], ◌∷◌, ◌++◌, length, Some, None, decimal, Option, sym, refl, ap, ◌∙◌, subst, append-nil, arith, length-append}
+use Rattle.std.proofs.Common.{◌≡◌, ℕ, ◌*◌, ◌≤◌, true, cond, List, [], ◌∷◌, ◌++◌, length, Some, None, decimal, Option, sym, refl, ap, ◌∙◌, subst, append-nil, arith, length-append}
 use Rattle.std.specs.List.{AllByRecursion as All}
 use Rattle.std.proofs.lemmas.Bool.{cond-true}
 use Rattle.tokens.specs.Fields.{as_number}
@@ -10,7 +10,7 @@ use Rattle.tokens.specs.TextLines.{Left, then, next_word, next_field, heading_of
 use Rattle.tokens.proofs.Cutting.{lacks, lacks-++}
 use Rattle.tokens.proofs.Laws.{Laws, number_laws}
 use Rattle.tokens.proofs.Options.{none_some, some_same, cond_some}
-use Rattle.tokens.proofs.Words.{Plain, spelled, tail, word_forth, word_back, section_only}
+use Rattle.tokens.proofs.Words.{Plain, tail, word_forth, word_back, section_only}
 
 -- words before what is left of a line
 abbrev pub onto : List (List ℕ) → Left → Left

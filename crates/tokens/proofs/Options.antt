@@ -1,5 +1,5 @@
 -- What cannot be, and what an `Option` that came out well was made of.
-use Rattle.std.proofs.Common.{◌≡◌, ℕ, Bool, true, false, cond, Some, None, Option, sym, refl, ap, ◌∙◌, arith}
+use Rattle.std.proofs.Common.{◌≡◌, ℕ, Bool, true, false, cond, Some, None, Option, sym, refl, arith}
 use Rattle.std.specs.Option.{option_map}
 
 pub none_some : {A P : Type 0} {x : A} → ◌≡◌ {A = Option A} None (Some x) → P

@@ -1,11 +1,11 @@
 -- What a word is, by its first byte.
-use Rattle.std.proofs.Common.{◌≡◌, ℕ, ◌-◌, ◌<◌, ◌≤◌, true, false, cond, eqb, List, [], ◌∷◌, length, get_or, take, drop, ℤ, pos, neg_ℤ, Some, None, Option, sym, refl, ap, ◌∙◌, arith}
+use Rattle.std.proofs.Common.{◌≡◌, ℕ, ◌-◌, ◌<◌, ◌≤◌, eqb, List, [], ◌∷◌, length, get_or, take, drop, pos, neg_ℤ, sym, ap, ◌∙◌, arith}
 use Rattle.std.specs.Option.{option_map}
 use Rattle.std.specs.Int.{is_in_range}
 use Rattle.tokens.specs.Numbers.{number_of, negated}
 use Rattle.tokens.proofs.Digits.{within_yes}
 use Rattle.std.proofs.lemmas.List.{take_rest}
-use Rattle.std.proofs.lemmas.Bool.{cond-true, cond-false, eq-eqb}
+use Rattle.std.proofs.lemmas.Bool.{cond-true, eq-eqb}
 use Rattle.tokens.specs.Said.{told, minus}
 
 pub told_minus : (bs : List ℕ) → 0 < length bs → get_or bs 0 0 ≡ 45 → minus (take (length bs - 1) (drop 1 bs)) ≡ told bs

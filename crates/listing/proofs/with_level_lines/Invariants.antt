@@ -1,4 +1,4 @@
-use Rattle.std.proofs.Common.{◌≡◌, ◌≤◌, ◌++◌, length, string_bytes}
+use Rattle.std.proofs.Common.{◌≡◌, ◌++◌, string_bytes}
 use Rattle.frames.specs.Levels.{level_height}
 use Rattle.listing.specs.Listings.{lines_to}
 use Rattle.listing.proofs.with_level_lines.Given as goal

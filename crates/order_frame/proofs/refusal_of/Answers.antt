@@ -1,4 +1,4 @@
-use Rattle.std.proofs.Common.{◌≡◌, ℕ, ◌≤◌, length, Some, vec_items, ap, ◌∙◌, arith}
+use Rattle.std.proofs.Common.{◌≡◌, ℕ, ◌≤◌, length, vec_items, ap, ◌∙◌, arith}
 use Rattle.frames.specs.Denials.{denial_number, denial_place}
 use Rattle.order_file.specs.File.{filed}
 use Rattle.order_frame.specs.Refusals.{refusal, blamed_line}

@@ -1,4 +1,4 @@
-use Rattle.std.proofs.Common.{◌≡◌, List, ◌++◌, map, string_bytes, ap, ◌∙◌, take_all}
+use Rattle.std.proofs.Common.{List, ◌++◌, map, string_bytes, ap, ◌∙◌, take_all}
 use Rattle.printing.specs.declared.Word.{Word}
 use Rattle.printing.specs.Words.{spelled, spaced}
 use Rattle.printing.proofs.Lines.{word_more}

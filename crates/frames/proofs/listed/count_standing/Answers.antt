@@ -1,4 +1,4 @@
-use Rattle.std.proofs.Common.{◌≡◌, ℕ, ◌+◌, ◌<◌, ◌≤◌, length, get_or, drop, ap, ◌∙◌, arith}
+use Rattle.std.proofs.Common.{ℕ, ◌+◌, length, get_or, drop, ap, arith}
 use Rattle.frames.specs.Steps.{standing}
 use Rattle.frames.proofs.Scans.{blank}
 use Rattle.frames.specs.Stacks.{stands_parts, standing_next, standing_stop, standing_end}

@@ -1,4 +1,4 @@
-use Rattle.std.proofs.Common.{◌∙◌, arith}
+use Rattle.std.proofs.Common.{◌∙◌}
 use Rattle.frames.specs.Places.{at_found}
 use Rattle.frames.proofs.listed.level_of.Goals as goal
 

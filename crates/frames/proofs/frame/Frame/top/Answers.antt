@@ -1,4 +1,4 @@
-use Rattle.std.proofs.Common.{◌≡◌, ◌≤◌, length, sym, ap, ◌∙◌, arith, take_all}
+use Rattle.std.proofs.Common.{◌≤◌, length, sym, ap, ◌∙◌, arith, take_all}
 use Rattle.records.specs.declared.height.LevelHeight.{LevelHeight}
 use Rattle.records.specs.declared.level.Level.{Level}
 use Rattle.frames.specs.Levels.{top_of}

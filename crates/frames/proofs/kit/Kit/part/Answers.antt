@@ -1,4 +1,4 @@
-use Rattle.std.proofs.Common.{◌≡◌, sym, ap, ◌∙◌, arith}
+use Rattle.std.proofs.Common.{◌≡◌, ap, ◌∙◌, arith}
 use Rattle.frames.specs.Kits.{kit_list}
 use Rattle.frames.specs.KitFrames.{Alike}
 use Rattle.frames.specs.Levels.{level_at}

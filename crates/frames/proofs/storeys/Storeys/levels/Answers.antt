@@ -1,4 +1,4 @@
-use Rattle.std.proofs.Common.{◌≡◌, ℕ, ◌-◌, ◌≤◌, min, length, take, ap, ◌∙◌, arith, rules}
+use Rattle.std.proofs.Common.{◌≡◌, ℕ, ◌-◌, min, length, take, ap, ◌∙◌, arith, rules}
 use Rattle.frames.specs.Lists.{take_min}
 use Rattle.frames.proofs.storeys.Storeys.levels.Goals as goal
 

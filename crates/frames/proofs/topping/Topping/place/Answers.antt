@@ -1,4 +1,4 @@
-use Rattle.std.proofs.Common.{◌≡◌, ◌-◌, ◌<◌, ◌≤◌, length, sym, ap, ◌∙◌, arith, length-append}
+use Rattle.std.proofs.Common.{◌≡◌, ◌-◌, ◌<◌, ◌≤◌, length, ap, ◌∙◌, arith, length-append}
 use Rattle.frames.specs.Levels.{height_of, level_at}
 use Rattle.frames.specs.OwnStoreys.{own_storeys}
 use Rattle.frames.specs.Steps.{standing}

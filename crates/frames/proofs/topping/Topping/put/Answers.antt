@@ -1,4 +1,4 @@
-use Rattle.std.proofs.Common.{◌≡◌, ℕ, ◌≤◌, [], ◌∷◌, ◌++◌, length, take, sym, refl, ap, ◌∙◌, arith, length-append, length-take}
+use Rattle.std.proofs.Common.{ℕ, ◌≤◌, [], ◌∷◌, ◌++◌, length, take, sym, refl, ap, ◌∙◌, arith, length-append, length-take}
 use Rattle.frames.specs.Levels.{height_of}
 use Rattle.frames.specs.OwnStoreys.{own_storeys}
 use Rattle.frames.specs.Steps.{standing, stacked}

@@ -1,4 +1,4 @@
-use Rattle.std.proofs.Common.{◌≡◌, ◌≤◌, drop}
+use Rattle.std.proofs.Common.{◌≡◌, drop}
 use Rattle.frames.specs.Tables.{denial_from}
 use Rattle.frames.proofs.typed.laid.check.Given as goal
 
