@@ -1,7 +1,7 @@
 -- Some accepted file has the same lines before the faulty one: what was read so far, and then anything.
 use Rattle.std.proofs.Common.{◌≡◌, ℕ, zero, suc, ◌+◌, ◌-◌, ◌≤◌, Bool, true, false, cond, ◌&&◌, eqb, leb, ◌⊎◌, List, [], ◌∷◌, length, pos, Some, None, Ok, Err, codes, Option, Result, sym, refl, ap, ◌∙◌, subst, inl, inr, suc-add, zero-add, arith}
 use Rattle.std.specs.Option.{option_map, option_to_list}
-use Rattle.std.specs.List.{AllByRecursion as All}
+use Rattle.std.specs.List.{AllByRecursion}
 use Rattle.std.proofs.lemmas.Bool.{cases_Bool, cond-true, cond-false, eqb-false}
 use Rattle.records.specs.declared.card.Card.{Card}
 use Rattle.records.specs.declared.card.Group.TheVariants.{B}
@@ -91,13 +91,13 @@ module _ {A : Type 0} {f : Left → Option (A × Left)} {words : A → List (Lis
       and_next (record_lines f n r) _ _ k (λ ys s d j.
       omega (arith, line_on f p x r e, lines_on n r ys s d, ap (λ t. t.1.1) (ok_same j))))
 
-  past_lines : (xs : List A) (k : ℕ) (r s : List ℕ) → All fits xs → Shares k r s → Shares (length xs + k) (lines_of words xs r) (lines_of words xs s)
+  past_lines : (xs : List A) (k : ℕ) (r s : List ℕ) → AllByRecursion fits xs → Shares k r s → Shares (length xs + k) (lines_of words xs r) (lines_of words xs s)
   past_lines [] k r s h shared = subst (λ i. Shares i r s) (sym (zero-add k)) shared
   past_lines (x ∷ xs) k r s h shared =
       subst (λ i. Shares i (lines_of words (x ∷ xs) r) (lines_of words (x ∷ xs) s)) (sym (suc-add (length xs) k))
       (shares_line (words x) (length xs + k) (lines_of words xs r) (lines_of words xs s) (ends x h.0) (past_lines xs k r s h.1 shared))
 
-  past_section : {name : List ℕ} → Names name → (xs : List A) (k : ℕ) (r s : List ℕ) → length xs ≤ 64 → All fits xs → Shares k r s → Shares (suc (length xs + k)) (section_text name words xs r) (section_text name words xs s)
+  past_section : {name : List ℕ} → Names name → (xs : List A) (k : ℕ) (r s : List ℕ) → length xs ≤ 64 → AllByRecursion fits xs → Shares k r s → Shares (suc (length xs + k)) (section_text name words xs r) (section_text name words xs s)
   past_section {name = name} names xs k r s few h shared =
       shares_line (count_words name (length xs)) (length xs + k) (lines_of words xs r) (lines_of words xs s) (count_ends names (length xs) few) (past_lines xs k r s h shared)
 
@@ -108,12 +108,12 @@ module _ {A : Type 0} {f : Left → Option (A × Left)} {words : A → List (Lis
 
   -- d stands for what was not read
   module _ (d : A) (ok : fits d) where
-    fill : (n : ℕ) → (xs : List A) × (length xs ≡ n) × All fits xs
+    fill : (n : ℕ) → (xs : List A) × (length xs ≡ n) × AllByRecursion fits xs
     fill zero = ([], refl, tt)
     fill (suc n) = let q = fill n in (d ∷ q.0, ap suc q.1, (ok, q.2))
 
     abbrev LinesBegun : ℕ → Place → Fault → Type 0
-    LinesBegun n p e = (xs : List A) × (p.1 ≤ fault_line e) × (length xs ≡ n) × All fits xs × ((after : List ℕ) → Shares (fault_line e - p.1) p.0 (lines_of words xs after))
+    LinesBegun n p e = (xs : List A) × (p.1 ≤ fault_line e) × (length xs ≡ n) × AllByRecursion fits xs × ((after : List ℕ) → Shares (fault_line e - p.1) p.0 (lines_of words xs after))
 
     lines_begun : (n : ℕ) (p : Place) (e : Fault) → record_lines f n p ≡ Err e → LinesBegun n p e
     lines_begun zero p e h = err_ok (sym h)
@@ -140,7 +140,7 @@ module _ {A : Type 0} {f : Left → Option (A × Left)} {words : A → List (Lis
                   (shares_line (words x) (fault_line e - q.1) q.0 (lines_of words r.0 after) (ends x b.2) (r.4 after)),
             )
 
-    section_begun : {name : List ℕ} → Names name → (most : ℕ) → most ≤ 64 → (p : Place) (e : Fault) → section_of_up_to most f name p ≡ Err e → (xs : List A) × (p.1 ≤ fault_line e) × (length xs ≤ most) × All fits xs × ((after : List ℕ) → Shares (fault_line e - p.1) p.0 (section_text name words xs after))
+    section_begun : {name : List ℕ} → Names name → (most : ℕ) → most ≤ 64 → (p : Place) (e : Fault) → section_of_up_to most f name p ≡ Err e → (xs : List A) × (p.1 ≤ fault_line e) × (length xs ≤ most) × AllByRecursion fits xs × ((after : List ℕ) → Shares (fault_line e - p.1) p.0 (section_text name words xs after))
     section_begun {name = name} names most limit p e h =
         or_next (count_line 0 most name p) _ e h
         (λ bad.
@@ -211,7 +211,7 @@ kit_on p k q h =
         and_next (record_line read_kit r) _ _ j (λ x s e i.
         subst (λ (t : Option KitNumbers × Place). t.1.1 ≡ r.1 + length (option_to_list t.0)) (ok_same i) (line_on read_kit r x s e))
 
-kit_begun : (p : Place) (e : Fault) → kit_section p ≡ Err e → (k : Option KitNumbers) × (p.1 ≤ fault_line e) × All KitShort (option_to_list k) × ((after : List ℕ) → Shares (fault_line e - p.1) p.0 (section_text (codes "KIT") kit_words (option_to_list k) after))
+kit_begun : (p : Place) (e : Fault) → kit_section p ≡ Err e → (k : Option KitNumbers) × (p.1 ≤ fault_line e) × AllByRecursion KitShort (option_to_list k) × ((after : List ℕ) → Shares (fault_line e - p.1) p.0 (section_text (codes "KIT") kit_words (option_to_list k) after))
 kit_begun p e h =
     or_next (count_line 0 1 (codes "KIT") p) _ e h
     (λ bad.
@@ -219,7 +219,7 @@ kit_begun p e h =
     (None, omega arith, tt, λ after. subst (λ i. Shares i p.0 (section_text (codes "KIT") kit_words [] after)) (let z : 0 ≡ fault_line e - p.1 = omega arith in z) tt))
     (λ n q good k. one n q good (cases_Bool (eqb n 0)) k)
   where
-    one : (n : ℕ) (q : Place) → count_line 0 1 (codes "KIT") p ≡ Ok (n, q) → (eqb n 0 ≡ true) ⊎ (eqb n 0 ≡ false) → kit_if (eqb n 0) q ≡ Err e → (k : Option KitNumbers) × (p.1 ≤ fault_line e) × All KitShort (option_to_list k) × ((after : List ℕ) → Shares (fault_line e - p.1) p.0 (section_text (codes "KIT") kit_words (option_to_list k) after))
+    one : (n : ℕ) (q : Place) → count_line 0 1 (codes "KIT") p ≡ Ok (n, q) → (eqb n 0 ≡ true) ⊎ (eqb n 0 ≡ false) → kit_if (eqb n 0) q ≡ Err e → (k : Option KitNumbers) × (p.1 ≤ fault_line e) × AllByRecursion KitShort (option_to_list k) × ((after : List ℕ) → Shares (fault_line e - p.1) p.0 (section_text (codes "KIT") kit_words (option_to_list k) after))
     one n q good (inl none) j = err_ok (sym (sym (cond-true (eqb n 0) _ _ none) ∙ j))
     one n q good (inr some) j =
         or_next (record_line read_kit q) _ e (sym (cond-false (eqb n 0) _ _ some) ∙ j)
@@ -263,7 +263,7 @@ card_begun p e h =
 
 -- the file
 
-past_kit : (k : Option KitNumbers) (i : ℕ) (r s : List ℕ) → All KitShort (option_to_list k) → Shares i r s → Shares (suc (length (option_to_list k) + i)) (section_text (codes "KIT") kit_words (option_to_list k) r) (section_text (codes "KIT") kit_words (option_to_list k) s)
+past_kit : (k : Option KitNumbers) (i : ℕ) (r s : List ℕ) → AllByRecursion KitShort (option_to_list k) → Shares i r s → Shares (suc (length (option_to_list k) + i)) (section_text (codes "KIT") kit_words (option_to_list k) r) (section_text (codes "KIT") kit_words (option_to_list k) s)
 past_kit k i r s h shared = past_section kit_lays (λ x. omega arith) kit_name (option_to_list k) i r s (omega (arith, one_kit k)) h shared
 
 -- how many lines a file has

@@ -1,7 +1,7 @@
 -- A part of a file is read from the text that writes it, and from no other.
 use Rattle.std.proofs.Common.{◌≡◌, ℕ, zero, suc, ◌+◌, ◌≤◌, true, ◌&&◌, leb, List, [], ◌∷◌, ◌++◌, length, Some, None, Ok, Option, Result, sym, refl, ap, ◌∙◌, subst, arith}
 use Rattle.std.specs.Option.{option_map}
-use Rattle.std.specs.List.{AllByRecursion as All}
+use Rattle.std.specs.List.{AllByRecursion}
 use Rattle.std.proofs.lemmas.Bool.{and_parts, and_from, leb-true, le-leb, cond-true}
 use Rattle.tokens.specs.Cuts.{cut_at}
 use Rattle.tokens.specs.Numbers.{Small}
@@ -94,24 +94,24 @@ module _ {A : Type 0} {f : Left → Option (A × Left)} {words : A → List (Lis
 
   -- so many records
 
-  lines_back : ((x : A) → 1 ≤ length (words x)) → (n : ℕ) (p : Place) (xs : List A) (q : Place) → record_lines f n p ≡ Ok (xs, q) → (length xs ≡ n) × (p.0 ≡ lines_of words xs q.0) × All fits xs
-  lines_back some zero p xs q h = subst (λ (t : List A × Place). (length t.0 ≡ 0) × (p.0 ≡ lines_of words t.0 t.1.0) × All fits t.0) (ok_same h) (refl, refl, tt)
+  lines_back : ((x : A) → 1 ≤ length (words x)) → (n : ℕ) (p : Place) (xs : List A) (q : Place) → record_lines f n p ≡ Ok (xs, q) → (length xs ≡ n) × (p.0 ≡ lines_of words xs q.0) × AllByRecursion fits xs
+  lines_back some zero p xs q h = subst (λ (t : List A × Place). (length t.0 ≡ 0) × (p.0 ≡ lines_of words t.0 t.1.0) × AllByRecursion fits t.0) (ok_same h) (refl, refl, tt)
   lines_back some (suc n) p xs q h =
       and_next (record_line f p) _ _ h (λ x r e k.
       and_next (record_lines f n r) _ _ k (λ ys s d j.
       let o = (line_parses some).back p x r e in
       let l = lines_back some n r ys s d in
-      subst (λ (t : List A × Place). (length t.0 ≡ suc n) × (p.0 ≡ lines_of words t.0 t.1.0) × All fits t.0) (ok_same j)
+      subst (λ (t : List A × Place). (length t.0 ≡ suc n) × (p.0 ≡ lines_of words t.0 t.1.0) × AllByRecursion fits t.0) (ok_same j)
       (ap suc l.0, o.1 ∙ ap (line_of (words x)) l.1, (o.2, l.2))))
 
-  lines_forth : ((x : A) → 1 ≤ length (words x)) → (xs : List A) (after : List ℕ) (l : ℕ) → All fits xs → (m : ℕ) × (record_lines f (length xs) (lines_of words xs after, l) ≡ Ok (xs, (after, m)))
+  lines_forth : ((x : A) → 1 ≤ length (words x)) → (xs : List A) (after : List ℕ) (l : ℕ) → AllByRecursion fits xs → (m : ℕ) × (record_lines f (length xs) (lines_of words xs after, l) ≡ Ok (xs, (after, m)))
   lines_forth some [] after l h = (l, refl)
   lines_forth some (x ∷ xs) after l h =
       let o = (line_parses some).forth x (lines_of words xs after) l tt h.0 in
       let q = lines_forth some xs after o.0 h.1 in
       (q.0, go_on _ o.1 ∙ go_on _ q.1)
 
-  pub lines_parse : ((x : A) → 1 ≤ length (words x)) → (n : ℕ) → ParsesPicked (λ xs. Unit {0} × (length xs ≡ n)) (record_lines f n) (lines_of words) (All fits)
+  pub lines_parse : ((x : A) → 1 ≤ length (words x)) → (n : ℕ) → ParsesPicked (λ xs. Unit {0} × (length xs ≡ n)) (record_lines f n) (lines_of words) (AllByRecursion fits)
   lines_parse some n = record {
     back = λ p xs q h. let l = lines_back some n p xs q h in ((tt, l.0), l.1, l.2);
     forth = λ xs after l p h.
@@ -145,5 +145,5 @@ pub count_ends : {name : List ℕ} → Names name → (n : ℕ) → n ≤ 64 →
 count_ends {name = name} names n few = joined_ends (count_words name n) ((heading names).plain n (omega arith))
 
 -- a section of up to so many records
-pub section_parses : {A : Type 0} {f : Left → Option (A × Left)} {words : A → List (List ℕ)} {fits : A → Type 0} → Lays f words fits → ((x : A) → 1 ≤ length (words x)) → {name : List ℕ} → Names name → (most : ℕ) → most ≤ 64 → Parses (section_of_up_to most f name) (section_text name words) (λ xs. ((0 ≤ length xs) × (length xs ≤ most)) × All fits xs)
+pub section_parses : {A : Type 0} {f : Left → Option (A × Left)} {words : A → List (List ℕ)} {fits : A → Type 0} → Lays f words fits → ((x : A) → 1 ≤ length (words x)) → {name : List ℕ} → Names name → (most : ℕ) → most ≤ 64 → Parses (section_of_up_to most f name) (section_text name words) (λ xs. ((0 ≤ length xs) × (length xs ≤ most)) × AllByRecursion fits xs)
 section_parses lays some b most few = part (count_parses b 0 most few) length (λ n h. lines_parse lays some n)

@@ -1,7 +1,7 @@
 -- On which line of the file each record stands.
 use Rattle.std.proofs.Common.{◌≡◌, ℕ, zero, suc, ◌+◌, ◌-◌, ◌<◌, ◌≤◌, true, List, [], ◌∷◌, length, get_or, Some, codes, Option, sym, ap, ◌∙◌, subst, suc-add, zero-add, arith}
 use Rattle.std.specs.Option.{option_map, option_to_list}
-use Rattle.std.specs.List.{AllByRecursion as All}
+use Rattle.std.specs.List.{AllByRecursion}
 use Rattle.tokens.specs.Text.{joined, line_of}
 use Rattle.tokens.specs.TextLines.{Left, then}
 use Rattle.tokens.proofs.Cutting.{lacks, cut_here}
@@ -25,23 +25,23 @@ module _ {A : Type 0} {f : Left → Option (A × Left)} {words : A → List (Lis
   ends : (x : A) → fits x → lacks 10 (joined (words x)) ≡ true
   ends x h = joined_ends (words x) (lays.plain x h)
 
-  past_all : (xs : List A) (after : List ℕ) (n : ℕ) → All fits xs → line_after (length xs + n) (lines_of words xs after) ≡ line_after n after
+  past_all : (xs : List A) (after : List ℕ) (n : ℕ) → AllByRecursion fits xs → line_after (length xs + n) (lines_of words xs after) ≡ line_after n after
   past_all [] after n h = ap (λ k. line_after k after) (zero-add n)
   past_all (x ∷ xs) after n h =
       ap (λ k. line_after k (lines_of words (x ∷ xs) after)) (suc-add (length xs) n)
       ∙ past (words x) (lines_of words xs after) (length xs + n) (ends x h.0)
       ∙ past_all xs after n h.1
 
-  among : (xs : List A) (after : List ℕ) (i : ℕ) (d : A) → i < length xs → All fits xs → line_after i (lines_of words xs after) ≡ Some (joined (words (get_or xs i d)))
+  among : (xs : List A) (after : List ℕ) (i : ℕ) (d : A) → i < length xs → AllByRecursion fits xs → line_after i (lines_of words xs after) ≡ Some (joined (words (get_or xs i d)))
   among [] after i d less h = absurd (let bad : ⊥ = omega arith in bad)
   among (x ∷ xs) after zero d less h = here (words x) (lines_of words xs after) (ends x h.0)
   among (x ∷ xs) after (suc i) d less h = past (words x) (lines_of words xs after) i (ends x h.0) ∙ among xs after i d (omega arith) h.1
 
-  past_section : (xs : List A) (after : List ℕ) (n : ℕ) → length xs ≤ 64 → All fits xs → line_after (suc (length xs + n)) (section_text name words xs after) ≡ line_after n after
+  past_section : (xs : List A) (after : List ℕ) (n : ℕ) → length xs ≤ 64 → AllByRecursion fits xs → line_after (suc (length xs + n)) (section_text name words xs after) ≡ line_after n after
   past_section xs after n few h =
       past (count_words name (length xs)) (lines_of words xs after) (length xs + n) (count_ends names (length xs) few) ∙ past_all xs after n h
 
-  in_section : (xs : List A) (after : List ℕ) (i : ℕ) (d : A) → length xs ≤ 64 → All fits xs → i < length xs → line_after (suc i) (section_text name words xs after) ≡ Some (joined (words (get_or xs i d)))
+  in_section : (xs : List A) (after : List ℕ) (i : ℕ) (d : A) → length xs ≤ 64 → AllByRecursion fits xs → i < length xs → line_after (suc i) (section_text name words xs after) ≡ Some (joined (words (get_or xs i d)))
   in_section xs after i d few h less =
       past (count_words name (length xs)) (lines_of words xs after) i (count_ends names (length xs) few) ∙ among xs after i d less h
 

@@ -1,7 +1,7 @@
 -- A whole file is read from the text that its records make, and from no other.
 use Rattle.std.proofs.Common.{◌≡◌, ℕ, zero, suc, ◌≤◌, cond, eqb, List, [], ◌∷◌, length, Some, None, Ok, codes, Option, Result, refl, ap, ◌∙◌, subst, arith}
 use Rattle.std.specs.Option.{option_to_list}
-use Rattle.std.specs.List.{AllByRecursion as All}
+use Rattle.std.specs.List.{AllByRecursion}
 use Rattle.records.specs.declared.kit_numbers.KitNumbers.{KitNumbers}
 use Rattle.tokens.specs.declared.fault.Fault.{Fault}
 use Rattle.tokens.proofs.Lays.{Names}
@@ -30,32 +30,32 @@ card_name = record { is = refl; plain = record { no_space = refl; no_end = refl;
 abbrev kit_or_none : ℕ → Place → Result (Option KitNumbers × Place) Fault
 kit_or_none n q = cond (eqb n 0) (Ok (None, q)) (next (record_line read_kit q) (λ k r. Ok (Some k, r)))
 
-kit_counted : (n : ℕ) → n ≤ 1 → ParsesPicked (λ k. Unit {0} × (length (option_to_list k) ≡ n)) (kit_or_none n) (λ k. lines_of kit_words (option_to_list k)) (λ k. All KitShort (option_to_list k))
+kit_counted : (n : ℕ) → n ≤ 1 → ParsesPicked (λ k. Unit {0} × (length (option_to_list k) ≡ n)) (kit_or_none n) (λ k. lines_of kit_words (option_to_list k)) (λ k. AllByRecursion KitShort (option_to_list k))
 kit_counted zero h = record {
-  back = λ p k q e. subst (λ (t : Option KitNumbers × Place). (Unit {0} × (length (option_to_list t.0) ≡ 0)) × (p.0 ≡ lines_of kit_words (option_to_list t.0) t.1.0) × All KitShort (option_to_list t.0)) (ok_same e) ((tt, refl), refl, tt);
+  back = λ p k q e. subst (λ (t : Option KitNumbers × Place). (Unit {0} × (length (option_to_list t.0) ≡ 0)) × (p.0 ≡ lines_of kit_words (option_to_list t.0) t.1.0) × AllByRecursion KitShort (option_to_list t.0)) (ok_same e) ((tt, refl), refl, tt);
   forth = none;
 }
   where
-    none : (k : Option KitNumbers) (after : List ℕ) (n : ℕ) → Unit {0} × (length (option_to_list k) ≡ 0) → All KitShort (option_to_list k) → (m : ℕ) × (kit_or_none 0 (lines_of kit_words (option_to_list k) after, n) ≡ Ok (k, (after, m)))
+    none : (k : Option KitNumbers) (after : List ℕ) (n : ℕ) → Unit {0} × (length (option_to_list k) ≡ 0) → AllByRecursion KitShort (option_to_list k) → (m : ℕ) × (kit_or_none 0 (lines_of kit_words (option_to_list k) after, n) ≡ Ok (k, (after, m)))
     none None after n p f = (n, refl)
     none (Some k) after n p f = absurd (let bad : ⊥ = omega (arith, p.1) in bad)
 kit_counted (suc zero) h = record {
   back = λ p k q e.
       and_next (record_line read_kit p) _ _ e (λ x r d i.
       let o = kit_line.back p x r d in
-      subst (λ (t : Option KitNumbers × Place). (Unit {0} × (length (option_to_list t.0) ≡ 1)) × (p.0 ≡ lines_of kit_words (option_to_list t.0) t.1.0) × All KitShort (option_to_list t.0)) (ok_same i) ((tt, refl), o.1, (o.2, tt)));
+      subst (λ (t : Option KitNumbers × Place). (Unit {0} × (length (option_to_list t.0) ≡ 1)) × (p.0 ≡ lines_of kit_words (option_to_list t.0) t.1.0) × AllByRecursion KitShort (option_to_list t.0)) (ok_same i) ((tt, refl), o.1, (o.2, tt)));
   forth = some;
 }
   where
     kit_line : Parses (record_line read_kit) (λ x after. lines_of kit_words (x ∷ []) after) KitShort
     kit_line = line_parses kit_lays (λ x. omega arith)
 
-    some : (k : Option KitNumbers) (after : List ℕ) (n : ℕ) → Unit {0} × (length (option_to_list k) ≡ 1) → All KitShort (option_to_list k) → (m : ℕ) × (kit_or_none 1 (lines_of kit_words (option_to_list k) after, n) ≡ Ok (k, (after, m)))
+    some : (k : Option KitNumbers) (after : List ℕ) (n : ℕ) → Unit {0} × (length (option_to_list k) ≡ 1) → AllByRecursion KitShort (option_to_list k) → (m : ℕ) × (kit_or_none 1 (lines_of kit_words (option_to_list k) after, n) ≡ Ok (k, (after, m)))
     some None after n p f = absurd (let bad : ⊥ = omega (arith, p.1) in bad)
     some (Some k) after n p f = let o = kit_line.forth k after n tt f.0 in (o.0, go_on _ o.1)
 kit_counted (suc (suc n)) h = absurd (let bad : ⊥ = omega arith in bad)
 
-pub kit_parses : Parses kit_section (λ k. section_text (codes "KIT") kit_words (option_to_list k)) (λ k. ((0 ≤ length (option_to_list k)) × (length (option_to_list k) ≤ 1)) × All KitShort (option_to_list k))
+pub kit_parses : Parses kit_section (λ k. section_text (codes "KIT") kit_words (option_to_list k)) (λ k. ((0 ≤ length (option_to_list k)) × (length (option_to_list k) ≤ 1)) × AllByRecursion KitShort (option_to_list k))
 kit_parses = part (count_parses kit_name 0 1 (omega arith)) (λ k. length (option_to_list k)) (λ n h. kit_counted n h.1)
 
 pub card_parses : Parses card_section (λ x. section_text (codes "CARD") card_words (x ∷ [])) (λ x. ((1 ≤ 1) × (1 ≤ 1)) × CardShort x)
@@ -79,7 +79,7 @@ text f after =
 
 -- what the parts ask of a file
 abbrev PartsFit : Filed → Type 0
-PartsFit f = (((0 ≤ length (option_to_list f.kit)) × (length (option_to_list f.kit) ≤ 1)) × All KitShort (option_to_list f.kit)) × ((((0 ≤ length f.levels) × (length f.levels ≤ most_levels f.kit)) × All LevelShort f.levels) × ((((0 ≤ length f.loads) × (length f.loads ≤ 64)) × All LoadShort f.loads) × ((((1 ≤ 1) × (1 ≤ 1)) × CardShort f.card) × Unit {0})))
+PartsFit f = (((0 ≤ length (option_to_list f.kit)) × (length (option_to_list f.kit) ≤ 1)) × AllByRecursion KitShort (option_to_list f.kit)) × ((((0 ≤ length f.levels) × (length f.levels ≤ most_levels f.kit)) × AllByRecursion LevelShort f.levels) × ((((0 ≤ length f.loads) × (length f.loads ≤ 64)) × AllByRecursion LoadShort f.loads) × ((((1 ≤ 1) × (1 ≤ 1)) × CardShort f.card) × Unit {0})))
 
 pub sections_parse : Parses sections text PartsFit
 sections_parse =

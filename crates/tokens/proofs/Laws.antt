@@ -4,7 +4,7 @@ use Rattle.std.specs.Option.{option_map, option_to_list}
 use Rattle.std.specs.Int.{is_in_range}
 use Rattle.std.specs.Char.{is_ascii_digit}
 use Rattle.std.specs.Fmt.{signed_decimal}
-use Rattle.std.specs.List.{AllByRecursion as All}
+use Rattle.std.specs.List.{AllByRecursion}
 use Rattle.std.specs.Str.{all_ascii_digits, bytes_eq}
 use Rattle.std.proofs.lemmas.Fmt.{digits_decimal, decimal_nonempty, decimal_digit, first_decimal, length-decimal-le}
 use Rattle.std.proofs.lemmas.Slice.Eq.{bytes_eq-Decides}
@@ -139,25 +139,25 @@ load_laws = record { only = load_only; means = load_means; plain = load_plain }
 
 -- periods
 
-period_only : (s : Said) (o : Option ℕ) → as_period s ≡ Some o → (spelled s ≡ period_text o) × All Small (option_to_list o)
+period_only : (s : Said) (o : Option ℕ) → as_period s ≡ Some o → (spelled s ≡ period_text o) × AllByRecursion Small (option_to_list o)
 period_only (section w) o h = none_some h
 period_only (numeral w) o h =
     let q = mapped_back Some (number_of w) o h in
     let b = back w q.0 q.1 in
-    subst (λ p. (w ≡ period_text p) × All Small (option_to_list p)) (sym q.2) (b.0, (b.1, tt))
-period_only (minus []) o h = subst (λ p. (45 ∷ [] ≡ period_text p) × All Small (option_to_list p)) (some_same h) (refl, tt)
+    subst (λ p. (w ≡ period_text p) × AllByRecursion Small (option_to_list p)) (sym q.2) (b.0, (b.1, tt))
+period_only (minus []) o h = subst (λ p. (45 ∷ [] ≡ period_text p) × AllByRecursion Small (option_to_list p)) (some_same h) (refl, tt)
 period_only (minus (b ∷ bs)) o h = none_some h
 period_only (mark w) o h = none_some h
 
-period_means : (o : Option ℕ) → All Small (option_to_list o) → as_period (told (period_text o)) ≡ Some o
+period_means : (o : Option ℕ) → AllByRecursion Small (option_to_list o) → as_period (told (period_text o)) ≡ Some o
 period_means None h = refl
 period_means (Some n) h = ap as_period (told_decimal n h.0) ∙ ap (option_map Some) (forth n h.0)
 
-period_plain : (o : Option ℕ) → All Small (option_to_list o) → Plain (period_text o)
+period_plain : (o : Option ℕ) → AllByRecursion Small (option_to_list o) → Plain (period_text o)
 period_plain None h = record { no_space = refl; no_end = refl; short = omega arith }
 period_plain (Some n) h = plain_decimal n h.0
 
-pub period_laws : Laws as_period period_text (λ o. All Small (option_to_list o))
+pub period_laws : Laws as_period period_text (λ o. AllByRecursion Small (option_to_list o))
 period_laws = record { only = period_only; means = period_means; plain = period_plain }
 
 -- marks

@@ -1,6 +1,6 @@
 -- A record is read from the words that write it, and from no others: one step for each field.
 use Rattle.std.proofs.Common.{◌≡◌, ℕ, ◌*◌, ◌≤◌, true, cond, List, [], ◌∷◌, ◌++◌, length, Some, None, decimal, Option, sym, refl, ap, ◌∙◌, subst, append-nil, arith, length-append}
-use Rattle.std.specs.List.{AllByRecursion as All}
+use Rattle.std.specs.List.{AllByRecursion}
 use Rattle.std.proofs.lemmas.Bool.{cond-true}
 use Rattle.tokens.specs.Fields.{as_number}
 use Rattle.tokens.specs.Numbers.{Small}
@@ -21,7 +21,7 @@ onto (w ∷ ws) rest = Some (w ++ tail (onto ws rest))
 pub record LaysPicked {A : Type 0} (picks : A → Type 0) (f : Left → Option (A × Left)) (words : A → List (List ℕ)) (fits : A → Type 0) : Type 0 where
   pub back : (ws : Left) (x : A) (rest : Left) → f ws ≡ Some (x, rest) → picks x × (ws ≡ onto (words x) rest) × fits x
   pub forth : (x : A) (rest : Left) → picks x → fits x → f (onto (words x) rest) ≡ Some (x, rest)
-  pub plain : (x : A) → fits x → All Plain (words x)
+  pub plain : (x : A) → fits x → AllByRecursion Plain (words x)
 
 -- any record is picked
 abbrev pub Lays : {A : Type 0} → (Left → Option (A × Left)) → (A → List (List ℕ)) → (A → Type 0) → Type 0
@@ -125,12 +125,12 @@ pub line_onto : (ws : List (List ℕ)) → 1 ≤ length ws → Some (joined ws) 
 line_onto [] h = absurd (let bad : ⊥ = omega arith in bad)
 line_onto (w ∷ ws) h = sym (onto_joined w ws)
 
-pub joined_ends : (ws : List (List ℕ)) → All Plain ws → lacks 10 (joined ws) ≡ true
+pub joined_ends : (ws : List (List ℕ)) → AllByRecursion Plain ws → lacks 10 (joined ws) ≡ true
 joined_ends [] h = refl
 joined_ends (w ∷ []) h = h.0.no_end
 joined_ends (w ∷ v ∷ vs) h = lacks-++ 10 w (32 ∷ joined (v ∷ vs)) h.0.no_end (joined_ends (v ∷ vs) h.1)
 
-pub joined_short : (ws : List (List ℕ)) → All Plain ws → length (joined ws) ≤ 11 * length ws
+pub joined_short : (ws : List (List ℕ)) → AllByRecursion Plain ws → length (joined ws) ≤ 11 * length ws
 joined_short [] h = omega arith
 joined_short (w ∷ []) h = omega (arith, h.0.short)
 joined_short (w ∷ v ∷ vs) h = omega (arith, h.0.short, joined_short (v ∷ vs) h.1, length-append w (32 ∷ joined (v ∷ vs)))
