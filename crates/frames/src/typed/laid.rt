@@ -2,7 +2,6 @@
 ghost use Rattle.std.specs.Prelude.{◌≡◌, []};
 ghost use Rattle.frames.specs.Tables.{Checked, CheckedWhen, lay_denial};
 ghost use Rattle.frames.specs.TypedLists.{typed_list, Laid, LaidWhen};
-ghost use Rattle.std.proofs.Common.{rules, arith};
 
 use crate::denial::{FrameDenial, NotLaid};
 use crate::frame::Frame;
@@ -56,7 +55,7 @@ fn check(table: &[Level]) -> Result<(), FrameDenial>
 impl Frame for Typed {
     ghost list = { typed_list };
 
-    ghost sound = { first_of (Prim.search rules, Prim.grind (arith, Self.row.coded.inj)) };
+    ghost sound = { λ t. t.ok };
 
     fn count(&self) -> u32 {
         self.levels.len() as u32
