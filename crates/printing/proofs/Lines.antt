@@ -1,7 +1,6 @@
 -- One word more on a line.
 use Rattle.std.proofs.Common.{◌≡◌, ℕ, ◌+◌, ◌-◌, ◌<◌, ◌≤◌, List, [], ◌∷◌, ◌++◌, map, length, get_or, take, drop, IfOk, Result, sym, refl, ap, ◌∙◌, append_assoc, append-nil, arith}
-use mathlib.Core.List.{map-append}
-use Rattle.std.proofs.lemmas.List.{take_more, take_rest}
+use Rattle.std.proofs.lemmas.List.{map-append, take_more, take_rest}
 use Rattle.std.proofs.lemmas.Result.{IfOk-weaker}
 use Rattle.printing.specs.declared.Word.{Word}
 use Rattle.tokens.specs.Text.{joined, line_of}
