@@ -2,15 +2,16 @@
 """Turns the names of this repository's own definitions and lemmas to the spelling of Rattle's library.
 
 A function, a lemma, a field or a constructor of antt is written in snake case, a fact or a type in upper camel case:
-`step-denial` becomes `step_denial`, `In-range` becomes `InRange`. Names that Rattle makes keep their dashes, and so do
-the names of the library. Run it once, at the top of the repository; it prints what it turned, and stops before any
-change where two names would fall together.
+`step-denial` becomes `step_denial`, `Lined-up` becomes `LinedUp`. Names that Rattle makes keep their dashes, and so do
+the names of the library, and a name with an operator in it. Run it once, at the top of the repository; it prints what it
+turned, and stops before any change where two names that are defined would fall together. Variables that a λ binds are
+turned too, without that test.
 """
 import pathlib
 import re
 import sys
 
-# Spelled as the others are, these would fall together with a variant or with a crate's name.
+# `OutOfRange` is a variant and `order_file` a crate; `In-range` goes with its opposite.
 SPECIAL = {"In-range": "IsInRange", "Out-of-range": "IsOutOfRange", "order-file": "order_file_of"}
 WORD = re.compile(r"(?<![\w'-])[A-Za-z_][\w']*(?:-[\w']+)*(?![\w'-])")
 HEAD = re.compile(r"^(?:(?:pub|abbrev|unfoldable|private) )*(?P<name>[A-Za-z][\w'-]*) (?:\{[^}]*\} )?:(?P<type>.*)$")

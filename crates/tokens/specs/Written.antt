@@ -1,4 +1,4 @@
--- How each field is written. Numbers are written by std's `decimal`, loads by its `signed`.
+-- How each field is written. Numbers are written by std's `decimal`, loads by its `signed_decimal`.
 use Rattle.std.specs.Prelude.{ℕ, List, Some, None, codes, decimal, Option}
 use Rattle.records.specs.declared.height.StoreyHeight.{StoreyHeight}
 use Rattle.records.specs.declared.card.Soil.{Soil}
