@@ -1,7 +1,7 @@
 //! The card: what the engineer settles for one direction of analysis.
 
 /// The kind of ground.
-#[derive(Clone, Copy)]
+#[derive(Clone, Copy, Debug, PartialEq, Eq)]
 pub enum Soil {
     I,
     II,
@@ -9,7 +9,7 @@ pub enum Soil {
 }
 
 /// The building's group of importance.
-#[derive(Clone, Copy)]
+#[derive(Clone, Copy, Debug, PartialEq, Eq)]
 pub enum Group {
     B,
     A,
@@ -17,7 +17,7 @@ pub enum Group {
 }
 
 /// How brittle walls stand to the frame.
-#[derive(Clone, Copy)]
+#[derive(Clone, Copy, Debug, PartialEq, Eq)]
 pub enum Walls {
     /// Tied to the frame (mark W).
     Tied,
@@ -26,7 +26,7 @@ pub enum Walls {
 }
 
 /// The twelve fields, in their order.
-#[derive(Clone, Copy)]
+#[derive(Clone, Copy, Debug, PartialEq, Eq)]
 pub struct Card {
     pub soil: Soil,
     pub group: Group,

@@ -1,14 +1,16 @@
 //! The two heights of the subject, both in decimetres, that are never taken for one another.
-ghost use Rattle.std.specs.Prelude.{◌≡◌};
+ghost use Rattle.std.specs.Prelude.{◌≡◌, Some, decimal};
 ghost use Rattle.records.specs.Heights.{ground, raised};
 
+use std::fmt;
+
 /// The height h of one storey, from the level below to its own.
-#[derive(Clone, Copy)]
+#[derive(Clone, Copy, Debug, PartialEq, Eq)]
 pub struct StoreyHeight(pub u32);
 
 /// The height H of a level over the ground: the sum of the storey heights up to it.
 /// Only that running sum makes one.
-#[derive(Clone, Copy)]
+#[derive(Clone, Copy, Debug, PartialEq, Eq)]
 pub struct LevelHeight(u32);
 
 impl LevelHeight {
@@ -26,10 +28,10 @@ impl LevelHeight {
     pub fn above(self, storey: StoreyHeight) -> Option<LevelHeight>
         ensures { result ≡ raised self storey }
     {
-        match self.0.checked_add(storey.0) {
-            Some(dm) if dm <= Self::LIMIT => Some(LevelHeight(dm)),
-            _ => None,
-        }
+        self.0
+            .checked_add(storey.0)
+            .filter(|dm| *dm <= Self::LIMIT)
+            .map(LevelHeight)
     }
 
     /// The height in decimetres.
@@ -38,5 +40,13 @@ impl LevelHeight {
     {
         let LevelHeight(dm) = self;
         dm
+    }
+}
+
+impl fmt::Display for LevelHeight {
+    ghost output = { λ height. Some (decimal height.0) };
+
+    fn fmt<W: fmt::Write>(&self, f: &mut fmt::Formatter<W>) -> fmt::Result {
+        write!(f, "{}", self.0)
     }
 }

@@ -6,7 +6,7 @@ use crate::height::StoreyHeight;
 use crate::level::Level;
 
 /// Levels that are alike, except that the last has the roof weight.
-#[derive(Clone, Copy)]
+#[derive(Clone, Copy, Debug, PartialEq, Eq)]
 pub struct KitNumbers {
     /// How many levels.
     pub levels: u32,

@@ -5,7 +5,7 @@ ghost use Rattle.records.specs.Ranges.{level_fits};
 use crate::height::StoreyHeight;
 
 /// Level k with storey k, which stands under it.
-#[derive(Clone, Copy)]
+#[derive(Clone, Copy, Debug, PartialEq, Eq)]
 pub struct Level {
     /// Weight in tenths of a tonne.
     pub weight: u32,
@@ -37,15 +37,11 @@ impl Level {
     pub fn is_in_range(&self) -> bool
         ensures { result ≡ level_fits self.now }
     {
-        1 <= self.weight
-            && self.weight <= Self::MOST_WEIGHT
-            && Self::LEAST_HEIGHT <= self.height.0
-            && self.height.0 <= Self::MOST_HEIGHT
-            && 1 <= self.stiffness
-            && self.stiffness <= Self::MOST_STIFFNESS
+        (1..=Self::MOST_WEIGHT).contains(&self.weight)
+            && (Self::LEAST_HEIGHT..=Self::MOST_HEIGHT).contains(&self.height.0)
+            && (1..=Self::MOST_STIFFNESS).contains(&self.stiffness)
             && self.mass_centre <= self.width
             && self.torsion_centre <= self.width
-            && 1 <= self.width
-            && self.width <= Self::MOST_WIDTH
+            && (1..=Self::MOST_WIDTH).contains(&self.width)
     }
 }

@@ -4,6 +4,7 @@
 
 pub mod card;
 pub mod denial;
+pub mod failure;
 pub mod height;
 pub mod kit_numbers;
 pub mod level;

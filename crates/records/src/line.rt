@@ -1,7 +1,7 @@
 //! A line of an order.
 
 /// A load hung on a level, or taken off it.
-#[derive(Clone, Copy)]
+#[derive(Clone, Copy, Debug, PartialEq, Eq)]
 pub struct Line {
     /// The level's number, from 1.
     pub level: u32,

@@ -1,0 +1,37 @@
+//! Why there is no answer where memory may be wanting too.
+ghost use Rattle.std.specs.Prelude.{◌≡◌};
+ghost use Rattle.records.specs.declared.failure.Failure.TheVariants.{Denied, NoMemory};
+
+use crate::denial::Denial;
+use std::alloc::{AllocError, AllocFailed};
+
+/// What was given is denied, or it is good and there is no memory for it.
+#[derive(Clone, Copy, Debug, PartialEq, Eq)]
+pub enum Failure<D> {
+    Denied(D),
+    NoMemory,
+}
+
+impl<D: Denial + Drop> From<D> for Failure<D> {
+    ghost from_gives = { λ d r. r ≡ Denied d };
+
+    fn from(denial: D) -> Failure<D> {
+        Failure::Denied(denial)
+    }
+}
+
+impl<D: Denial> From<AllocError> for Failure<D> {
+    ghost from_gives = { λ _ r. r ≡ NoMemory };
+
+    fn from(_error: AllocError) -> Failure<D> {
+        Failure::NoMemory
+    }
+}
+
+impl<D: Denial, T: Drop> From<AllocFailed<T>> for Failure<D> {
+    ghost from_gives = { λ _ r. r ≡ NoMemory };
+
+    fn from(_error: AllocFailed<T>) -> Failure<D> {
+        Failure::NoMemory
+    }
+}
