@@ -1,3 +1,4 @@
+pub mod Failures
 pub mod Heights
 pub mod Kits
 pub mod Limits

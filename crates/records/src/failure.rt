@@ -1,5 +1,6 @@
 //! Why there is no answer where memory may be wanting too.
 ghost use Rattle.std.specs.Prelude.{◌≡◌};
+ghost use Rattle.records.specs.Failures.{Widens};
 ghost use Rattle.records.specs.declared.failure.Failure.TheVariants.{Denied, NoMemory};
 
 use crate::denial::Denial;
@@ -10,6 +11,18 @@ use std::alloc::{AllocError, AllocFailed};
 pub enum Failure<D> {
     Denied(D),
     NoMemory,
+}
+
+impl<D> Failure<D> {
+    /// The same failure, with its denial as one of a wider kind.
+    pub fn widen<E: From<D>>(self) -> Failure<E>
+        ensures { Widens E.from_gives self result }
+    {
+        match self {
+            Failure::Denied(denial) => Failure::Denied(E::from(denial)),
+            Failure::NoMemory => Failure::NoMemory,
+        }
+    }
 }
 
 impl<D: Denial + Drop> From<D> for Failure<D> {
