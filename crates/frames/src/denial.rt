@@ -1,13 +1,10 @@
 //! Why a frame refuses what it is given.
-ghost use Rattle.std.specs.Prelude.{◌≡◌};
 ghost use Rattle.frames.specs.Denials.{denial_number, denial_place};
-ghost use Rattle.frames.specs.declared.denial.NotLaid.TheVariants.{Denied, NoMemory};
 
 use records::denial::Denial;
-use std::alloc::AllocError;
 
 /// What is wrong, with the level that it is wrong at.
-#[derive(Clone, Copy)]
+#[derive(Clone, Copy, Debug, PartialEq, Eq)]
 pub enum FrameDenial {
     /// More levels than a frame may have; the first of them that is too many.
     TooManyLevels { level: u32 },
@@ -41,30 +38,5 @@ impl Denial for FrameDenial {
             FrameDenial::TooHigh { level } => level,
             FrameDenial::KitOutOfRange | FrameDenial::KitTooHigh => 0,
         }
-    }
-}
-
-/// Why a table was not laid.
-#[derive(Clone, Copy)]
-pub enum NotLaid {
-    /// Something is wrong with the table.
-    Denied(FrameDenial),
-    /// The table is good, and memory is wanting for it.
-    NoMemory,
-}
-
-impl From<FrameDenial> for NotLaid {
-    ghost from_gives = { λ d r. r ≡ Denied d };
-
-    fn from(denial: FrameDenial) -> NotLaid {
-        NotLaid::Denied(denial)
-    }
-}
-
-impl From<AllocError> for NotLaid {
-    ghost from_gives = { λ _ r. r ≡ NoMemory };
-
-    fn from(_error: AllocError) -> NotLaid {
-        NotLaid::NoMemory
     }
 }

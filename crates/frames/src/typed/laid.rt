@@ -3,11 +3,12 @@ ghost use Rattle.std.specs.Prelude.{◌≡◌, []};
 ghost use Rattle.frames.specs.Tables.{Checked, CheckedWhen, lay_denial};
 ghost use Rattle.frames.specs.TypedLists.{typed_list, Laid, LaidWhen};
 
-use crate::denial::{FrameDenial, NotLaid};
+use crate::denial::FrameDenial;
 use crate::frame::Frame;
 use crate::judge::judge;
 use crate::listed::level_of;
 use crate::typed::Typed;
+use records::failure::Failure;
 use records::height::LevelHeight;
 use records::level::Level;
 use records::limits::MOST_LEVELS;
@@ -25,7 +26,7 @@ impl Typed {
     }
 
     /// The frame with the table for its list; where it is refused the list stays as it was.
-    pub fn lay(&mut self, table: &[Level]) -> Result<(), NotLaid>
+    pub fn lay(&mut self, table: &[Level]) -> Result<(), Failure<FrameDenial>>
         ensures answer { Laid table.now (typed_list self.old) (typed_list self.new) result }
         ensures law { LaidWhen table.now result }
     {
