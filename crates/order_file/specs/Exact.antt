@@ -4,8 +4,8 @@ use Rattle.std.specs.Prelude.{◌≡◌, ℕ, ◌-◌, List, Ok, Err, Result, �
 use Rattle.tokens.specs.Faults.{fault_line}
 use Rattle.tokens.specs.declared.fault.Fault.{Fault}
 use Rattle.order_file.specs.declared.contents.OrderFile.{OrderFile}
-use Rattle.order_file.specs.declared.not_read.NotRead.{NotRead}
-use Rattle.order_file.specs.declared.not_read.NotRead.TheVariants.{Faulty, NoMemory}
+use Rattle.records.specs.declared.failure.Failure.{Failure}
+use Rattle.records.specs.declared.failure.Failure.TheVariants.{Denied, NoMemory}
 use Rattle.order_file.specs.File.{Filed, filed}
 use Rattle.order_file.specs.First.{Shares}
 use Rattle.order_file.specs.Limits.{Fits}
@@ -23,7 +23,7 @@ pub record Refused (e : Fault) (bytes : List ℕ) : Type 0 where
   -- but some file with the same lines before it
   pub first : (f : Filed) × Fits f × Shares (fault_line e - 1) bytes (render f)
 
-abbrev pub Exactly : Result OrderFile NotRead → List ℕ → Type 0
+abbrev pub Exactly : Result OrderFile (Failure Fault) → List ℕ → Type 0
 Exactly (Ok f) bytes = Accepted (filed f) bytes
-Exactly (Err (Faulty e)) bytes = Refused e bytes
+Exactly (Err (Denied e)) bytes = Refused e bytes
 Exactly (Err NoMemory) bytes = Unit {0}

@@ -7,8 +7,8 @@ use Rattle.records.specs.declared.line.Line.{Line}
 use Rattle.tokens.specs.declared.fault.Fault.{Fault}
 use Rattle.tokens.specs.declared.fault.Fault.TheVariants.{Surplus}
 use Rattle.order_file.specs.declared.contents.OrderFile.{OrderFile}
-use Rattle.order_file.specs.declared.not_read.NotRead.{NotRead}
-use Rattle.order_file.specs.declared.not_read.NotRead.TheVariants.{Faulty, NoMemory}
+use Rattle.records.specs.declared.failure.Failure.{Failure}
+use Rattle.records.specs.declared.failure.Failure.TheVariants.{Denied, NoMemory}
 use Rattle.order_file.specs.Records.{read_kit, read_level, read_load, read_card}
 use Rattle.order_file.specs.Sections.{Place, next, record_line, count_line, section_of_up_to}
 use Rattle.records.specs.Limits.{level_limit, storey_limit}
@@ -72,7 +72,7 @@ abbrev pub order_file_of : List ℕ → Result Filed Fault
 order_file_of bs = next (sections (bs, 1)) and_no_more
 
 -- what was read is what the definition says; nothing is said where there was no memory
-abbrev pub ReadAs : Result OrderFile NotRead → Result Filed Fault → Type 0
+abbrev pub ReadAs : Result OrderFile (Failure Fault) → Result Filed Fault → Type 0
 ReadAs (Ok f) want = want ≡ Ok (filed f)
-ReadAs (Err (Faulty e)) want = want ≡ Err e
+ReadAs (Err (Denied e)) want = want ≡ Err e
 ReadAs (Err NoMemory) want = Unit {0}

@@ -3,8 +3,8 @@ use Rattle.std.specs.Prelude.{◌≡◌, ℕ, Ok, Err, Result}
 use Rattle.tokens.specs.TextLines.{Left, left, numbered}
 use Rattle.tokens.specs.declared.fault.Fault.{Fault}
 use Rattle.tokens.specs.declared.text_line.TextLine.{TextLine}
-use Rattle.order_file.specs.declared.not_read.NotRead.{NotRead}
-use Rattle.order_file.specs.declared.not_read.NotRead.TheVariants.{Faulty, NoMemory}
+use Rattle.records.specs.declared.failure.Failure.{Failure}
+use Rattle.records.specs.declared.failure.Failure.TheVariants.{Denied, NoMemory}
 use Rattle.order_file.specs.declared.reader.Reader.{Reader}
 use Rattle.order_file.specs.Sections.{Place}
 
@@ -18,9 +18,9 @@ Read (Ok x) p want = want ≡ Ok (x, p)
 Read (Err e) p want = want ≡ Err e
 
 -- the same where there may be no memory: then nothing is said
-abbrev pub Reads : {V A : Type 0} → (V → A) → Result V NotRead → Place → Result (A × Place) Fault → Type 0
+abbrev pub Reads : {V A : Type 0} → (V → A) → Result V (Failure Fault) → Place → Result (A × Place) Fault → Type 0
 Reads f (Ok x) p want = want ≡ Ok (f x, p)
-Reads f (Err (Faulty e)) p want = want ≡ Err e
+Reads f (Err (Denied e)) p want = want ≡ Err e
 Reads f (Err NoMemory) p want = Unit {0}
 
 -- line n was taken, to be read word by word

@@ -10,18 +10,18 @@ ghost use Rattle.order_file.specs.File.{byte_limit, order_file_of, filed, ReadAs
 ghost use Rattle.order_file.specs.Lines.{LinedUp};
 
 use contents::OrderFile;
-use not_read::NotRead;
 use reader::read_file;
+use records::failure::Failure;
 use std::alloc::Global;
+use tokens::fault::Fault;
 
 pub mod contents;
 pub mod line_numbers;
-pub mod not_read;
 mod reader;
 mod record;
 
 /// Reads a whole order file: its records, or the fault of its first faulty line.
-pub fn read(file: &[u8], heap: Global) -> Result<OrderFile, NotRead>
+pub fn read(file: &[u8], heap: Global) -> Result<OrderFile, Failure<Fault>>
     ensures told { ReadAs result (order_file_of file.now) }
     ensures exact { Exactly result file.now }
     ensures front { ReadAs result (order_file_of (take byte_limit file.now)) }

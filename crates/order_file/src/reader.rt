@@ -5,9 +5,9 @@ ghost use Rattle.order_file.specs.Reading.{place, Lined, Read, Reads};
 ghost use Rattle.order_file.specs.Sections.{next_line, record_line, record_lines, count_line, section_of_up_to};
 
 use crate::contents::OrderFile;
-use crate::not_read::NotRead;
 use crate::record::Record;
 use records::card::Card;
+use records::failure::Failure;
 use records::kit_numbers::KitNumbers;
 use records::level::Level;
 use records::limits::{MOST_LEVELS, MOST_STOREYS};
@@ -80,7 +80,11 @@ impl<'a> Reader<'a> {
     }
 
     // So many records, one a line.
-    fn records<R: Record + Drop>(&mut self, count: u32, heap: Global) -> Result<Vec<R>, NotRead>
+    fn records<R: Record + Drop>(
+        &mut self,
+        count: u32,
+        heap: Global,
+    ) -> Result<Vec<R>, Failure<Fault>>
         requires { self.old.line + count < 2 ^ 31 }
         ensures read { Reads vec_items result (place self.new) (record_lines R.layout count (place self.old)) }
         ensures line { OnOk result (self.new.line ≡ self.old.line + count) }
@@ -99,7 +103,7 @@ impl<'a> Reader<'a> {
         name: &[u8],
         most: u32,
         heap: Global,
-    ) -> Result<Vec<R>, NotRead>
+    ) -> Result<Vec<R>, Failure<Fault>>
         requires { self.old.line + most < 2 ^ 30 }
         ensures read { Reads vec_items result (place self.new) (section_of_up_to most R.layout name.now (place self.old)) }
         ensures line { IfOk result (λ v. (self.new.line ≤ self.old.line + most + 1) × (vec_len v ≤ most)) }
@@ -124,7 +128,11 @@ impl<'a> Reader<'a> {
     }
 
     // The levels that the file lists, on top of a kit or as the whole frame.
-    fn levels(&mut self, kit: Option<KitNumbers>, heap: Global) -> Result<Vec<Level>, NotRead>
+    fn levels(
+        &mut self,
+        kit: Option<KitNumbers>,
+        heap: Global,
+    ) -> Result<Vec<Level>, Failure<Fault>>
         requires { self.old.line < 2 ^ 20 }
         ensures read { Reads vec_items result (place self.new) (level_section kit (place self.old)) }
         ensures line { IfOk result (λ v. (self.new.line ≤ self.old.line + 25) × (vec_len v ≤ 24)) }
@@ -137,7 +145,7 @@ impl<'a> Reader<'a> {
     }
 
     // The loads' section.
-    fn loads(&mut self, heap: Global) -> Result<Vec<Line>, NotRead>
+    fn loads(&mut self, heap: Global) -> Result<Vec<Line>, Failure<Fault>>
         requires { self.old.line < 2 ^ 20 }
         ensures read { Reads vec_items result (place self.new) (load_section (place self.old)) }
         ensures line { IfOk result (λ v. (self.new.line ≤ self.old.line + 65) × (vec_len v ≤ 64)) }
@@ -155,7 +163,7 @@ impl<'a> Reader<'a> {
     }
 
     // The four sections in their order.
-    fn sections(&mut self, heap: Global) -> Result<OrderFile, NotRead>
+    fn sections(&mut self, heap: Global) -> Result<OrderFile, Failure<Fault>>
         requires { self.old.line < 2 ^ 10 }
         ensures { Reads filed result (place self.new) (sections (place self.old)) }
     {
@@ -173,7 +181,7 @@ impl<'a> Reader<'a> {
 }
 
 // The sections in their order, and nothing after them.
-pub(crate) fn read_file(file: &[u8], heap: Global) -> Result<OrderFile, NotRead>
+pub(crate) fn read_file(file: &[u8], heap: Global) -> Result<OrderFile, Failure<Fault>>
     ensures { ReadAs result (order_file_of file.now) }
 {
     let mut reader = Reader {
@@ -183,6 +191,6 @@ pub(crate) fn read_file(file: &[u8], heap: Global) -> Result<OrderFile, NotRead>
     let order_file = reader.sections(heap)?;
     match reader.rest {
         [] => Ok(order_file),
-        _ => Err(NotRead::Faulty(Fault::Surplus { line: reader.line })),
+        _ => Err(Failure::Denied(Fault::Surplus { line: reader.line })),
     }
 }
