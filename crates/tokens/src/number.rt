@@ -1,7 +1,7 @@
 //! Numbers: 0, or a digit 1 to 9 and up to eight more.
 ghost use Rattle.std.specs.Prelude.{◌≡◌, ℕ, ◌^◌, ◌<◌, ◌≤◌, length, pos, IfSome};
 ghost use Rattle.std.specs.Option.{option_map};
-ghost use Rattle.tokens.specs.Numbers.{onward, number_of, led, negated};
+ghost use Rattle.tokens.specs.Numbers.{onward, number_of, negated};
 
 // How many digits may follow the first, so that every number fits 30 bits.
 const MORE_DIGITS: usize = 8;
@@ -40,28 +40,17 @@ pub(crate) fn number(bytes: &[u8]) -> Option<u32>
 pub(crate) fn positive(bytes: &[u8]) -> Option<i32>
     ensures { result ≡ option_map pos (number_of bytes.now) }
 {
-    match number(bytes) {
-        Some(n) => Some(n as i32),
-        None => None,
-    }
-}
-
-// Whether a digit 1 to 9 comes first.
-fn leads(bytes: &[u8]) -> bool
-    ensures { result ≡ led bytes.now }
-{
-    match bytes {
-        [b'1'..=b'9', ..] => true,
-        _ => false,
-    }
+    let n = number(bytes)?;
+    Some(n as i32)
 }
 
 // A load whose minus sign stands before `after`. There is no minus zero.
 pub(crate) fn negative(after: &[u8]) -> Option<i32>
     ensures { result ≡ negated after.now }
 {
-    match number(after) {
-        Some(n) if leads(after) => Some(-(n as i32)),
-        _ => None,
-    }
+    let [b'1'..=b'9', ..] = after else {
+        return None;
+    };
+    let n = number(after)?;
+    Some(-(n as i32))
 }
