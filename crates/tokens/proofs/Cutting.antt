@@ -5,7 +5,9 @@ use Rattle.std.specs.List.{position}
 use Rattle.std.specs.Option.{option_map}
 use Rattle.std.proofs.lemmas.Bool.{cases_Bool, cond-true, cond-false, eqb-true, lt-ltb, le-ltb, ltb-true, ltb-false, and_parts, and_from}
 use Rattle.tokens.specs.Cuts.{ahead, cut_at}
-use Rattle.tokens.proofs.Options.{none_some, some_same, cond_some}
+use Rattle.std.proofs.lemmas.List.Sums.{split_at_first, passes_at_first}
+use Rattle.std.proofs.lemmas.Option.{cond_some}
+use Rattle.tokens.proofs.Options.{none_some}
 
 -- cut where `position` finds c, or not at all
 pub cut_at-position : (c : ℕ) (bs : List ℕ) (r : Option ℕ) → r ≡ position (λ b. eqb b c) bs → cut_at c bs ≡ option_map (λ n. (take n bs, drop (n + 1) bs)) r
@@ -60,28 +62,18 @@ cut_here c xs ys h =
 
 -- the bytes before the first c, c, and the bytes after it
 parts : (c : ℕ) (bs : List ℕ) → ahead c bs < length bs → bs ≡ take (ahead c bs) bs ++ (c ∷ drop (ahead c bs + 1) bs)
-parts c [] h = absurd (let bad : ⊥ = omega arith in bad)
-parts c (b ∷ bs) h =
-    ⊎_elim
-    (λ is.
-    let none : ahead c (b ∷ bs) ≡ 0 = cond-false (not (eqb b c)) _ 0 (ap not is) in
-    subst (λ k. b ∷ bs ≡ take k (b ∷ bs) ++ (c ∷ drop (k + 1) (b ∷ bs))) (sym none) (ap (λ x. x ∷ bs) (eqb-true b c is)))
-    (λ isnt.
-    let more : ahead c (b ∷ bs) ≡ suc (ahead c bs) = cond-true (not (eqb b c)) _ 0 (ap not isnt) ∙ one-add _ in
-    subst (λ k. b ∷ bs ≡ take k (b ∷ bs) ++ (c ∷ drop (k + 1) (b ∷ bs))) (sym more)
-    (ap (λ l. b ∷ l) (parts c bs (omega arith)) ∙ ap (λ k. b ∷ (take (ahead c bs) bs ++ (c ∷ drop k (b ∷ bs)))) (let e : suc (ahead c bs + 1) ≡ suc (ahead c bs) + 1 = omega arith in e)))
-    (cases_Bool (eqb b c))
+parts c bs h = split_at_first (λ b. eqb b c) bs 0 h ∙ ap (λ b. take (ahead c bs) bs ++ (b ∷ drop (ahead c bs + 1) bs)) (eqb-true _ c (passes_at_first (λ b. eqb b c) bs 0 h))
 
 -- what is cut is put together again
 pub cut_back : (c : ℕ) (bs : List ℕ) (p : List ℕ × List ℕ) → cut_at c bs ≡ Some p → bs ≡ p.0 ++ (c ∷ p.1)
 cut_back c bs p h =
     let q = cond_some (ltb (ahead c bs) (length bs)) _ p h in
-    parts c bs (ltb-true _ _ q.0) ∙ ap (λ r. r.0 ++ (c ∷ r.1)) (some_same q.1)
+    parts c bs (ltb-true _ _ q.0) ∙ ap (λ r. r.0 ++ (c ∷ r.1)) q.1
 
 cut_lacks : (c : ℕ) (bs : List ℕ) (p : List ℕ × List ℕ) → cut_at c bs ≡ Some p → lacks c p.0 ≡ true
 cut_lacks c bs p h =
     let q = cond_some (ltb (ahead c bs) (length bs)) _ p h in
-    subst (λ t. lacks c t.0 ≡ true) (some_same q.1) (ahead_lacks c bs)
+    subst (λ t. lacks c t.0 ≡ true) q.1 (ahead_lacks c bs)
 
 none_lacks : (c : ℕ) (bs : List ℕ) → cut_at c bs ≡ None → lacks c bs ≡ true
 none_lacks c bs h =

@@ -7,6 +7,7 @@ ghost use Rattle.tokens.specs.Numbers.{onward, number_of, negated};
 const MORE_DIGITS: usize = 8;
 
 // The number that some digits go on to write after the digit `start`.
+#[tactic(auto, using(crate::proofs::Digits::ten_most))]
 fn more_digits(start: u8, digits: &[u8]) -> Option<u32>
     requires start_bound { start < 10 }
     requires digits_len_bound { length digits.now ≤ 8 }
