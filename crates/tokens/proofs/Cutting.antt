@@ -1,19 +1,21 @@
 -- What stands before the first byte c and after it, also where a text is cut short.
-use Rattle.std.proofs.Common.{◌≡◌, ℕ, zero, suc, ◌+◌, ◌-◌, ◌<◌, ◌≤◌, Bool, true, false, cond, not, ◌&&◌, eqb, ltb, List, [], ◌∷◌, ◌++◌, length, take, drop, Some, None, sym, refl, ap, ◌∙◌, subst, ⊎_elim, one-add, arith, length-append, take_all}
+use Rattle.std.proofs.Common.{◌≡◌, ℕ, zero, suc, ◌+◌, ◌-◌, ◌<◌, ◌≤◌, Bool, true, false, cond, not, ◌&&◌, eqb, ltb, List, [], ◌∷◌, ◌++◌, length, take, drop, Some, None, Option, sym, refl, ap, ◌∙◌, subst, ⊎_elim, one-add, arith, length-append, take_all}
 use lib.Seq.{take-append-le, take-append-add, take-append_seam, drop-append-add}
-use Rattle.std.proofs.lemmas.List.{take_rest}
+use Rattle.std.specs.List.{position}
+use Rattle.std.specs.Option.{option_map}
 use Rattle.std.proofs.lemmas.Bool.{cases_Bool, cond-true, cond-false, eqb-true, lt-ltb, le-ltb, ltb-true, ltb-false, and_parts, and_from}
 use Rattle.tokens.specs.Cuts.{ahead, cut_at}
-use Rattle.tokens.proofs.Options.{none_some, some_same, cond_some}
+use Rattle.std.proofs.lemmas.List.Sums.{split_at_first, passes_at_first}
+use Rattle.std.proofs.lemmas.Option.{cond_some}
+use Rattle.tokens.proofs.Options.{none_some}
 
--- the two parts, as `&s[0..n]` and `&s[n + 1..]` have them
-pub cut_some : (c n : ℕ) (bs : List ℕ) → n ≡ ahead c bs → n < length bs → Some (take (n - 0) bs, take (length bs - (n + 1)) (drop (n + 1) bs)) ≡ cut_at c bs
-cut_some c n bs e h =
-    let front : take (n - 0) bs ≡ take (ahead c bs) bs = ap (λ k. take k bs) (omega arith) in
-    let back : take (length bs - (n + 1)) (drop (n + 1) bs) ≡ drop (ahead c bs + 1) bs = take_rest bs (n + 1) ∙ ap (λ k. drop (k + 1) bs) e in
-    ap (λ x. Some (x, take (length bs - (n + 1)) (drop (n + 1) bs))) front
-    ∙ ap (λ y. Some (take (ahead c bs) bs, y)) back
-    ∙ sym (cond-true (ltb (ahead c bs) (length bs)) _ None (lt-ltb _ _ (omega arith)))
+-- cut where `position` finds c, or not at all
+pub cut_at-position : (c : ℕ) (bs : List ℕ) (r : Option ℕ) → r ≡ position (λ b. eqb b c) bs → cut_at c bs ≡ option_map (λ n. (take n bs, drop (n + 1) bs)) r
+cut_at-position c bs r e = inside (λ n. (take n bs, drop (n + 1) bs)) (ltb (ahead c bs) (length bs)) (ahead c bs) ∙ ap (option_map (λ n. (take n bs, drop (n + 1) bs))) (sym e)
+  where
+    inside : {A B : Type 0} (f : A → B) (t : Bool) (x : A) → cond t (Some (f x)) None ≡ option_map f (cond t (Some x) None)
+    inside f true x = refl
+    inside f false x = refl
 
 -- a text without the byte c
 abbrev pub lacks : ℕ → List ℕ → Bool
@@ -60,28 +62,18 @@ cut_here c xs ys h =
 
 -- the bytes before the first c, c, and the bytes after it
 parts : (c : ℕ) (bs : List ℕ) → ahead c bs < length bs → bs ≡ take (ahead c bs) bs ++ (c ∷ drop (ahead c bs + 1) bs)
-parts c [] h = absurd (let bad : ⊥ = omega arith in bad)
-parts c (b ∷ bs) h =
-    ⊎_elim
-    (λ is.
-    let none : ahead c (b ∷ bs) ≡ 0 = cond-false (not (eqb b c)) _ 0 (ap not is) in
-    subst (λ k. b ∷ bs ≡ take k (b ∷ bs) ++ (c ∷ drop (k + 1) (b ∷ bs))) (sym none) (ap (λ x. x ∷ bs) (eqb-true b c is)))
-    (λ isnt.
-    let more : ahead c (b ∷ bs) ≡ suc (ahead c bs) = cond-true (not (eqb b c)) _ 0 (ap not isnt) ∙ one-add _ in
-    subst (λ k. b ∷ bs ≡ take k (b ∷ bs) ++ (c ∷ drop (k + 1) (b ∷ bs))) (sym more)
-    (ap (λ l. b ∷ l) (parts c bs (omega arith)) ∙ ap (λ k. b ∷ (take (ahead c bs) bs ++ (c ∷ drop k (b ∷ bs)))) (let e : suc (ahead c bs + 1) ≡ suc (ahead c bs) + 1 = omega arith in e)))
-    (cases_Bool (eqb b c))
+parts c bs h = split_at_first (λ b. eqb b c) bs 0 h ∙ ap (λ b. take (ahead c bs) bs ++ (b ∷ drop (ahead c bs + 1) bs)) (eqb-true _ c (passes_at_first (λ b. eqb b c) bs 0 h))
 
 -- what is cut is put together again
 pub cut_back : (c : ℕ) (bs : List ℕ) (p : List ℕ × List ℕ) → cut_at c bs ≡ Some p → bs ≡ p.0 ++ (c ∷ p.1)
 cut_back c bs p h =
     let q = cond_some (ltb (ahead c bs) (length bs)) _ p h in
-    parts c bs (ltb-true _ _ q.0) ∙ ap (λ r. r.0 ++ (c ∷ r.1)) (some_same q.1)
+    parts c bs (ltb-true _ _ q.0) ∙ ap (λ r. r.0 ++ (c ∷ r.1)) q.1
 
 cut_lacks : (c : ℕ) (bs : List ℕ) (p : List ℕ × List ℕ) → cut_at c bs ≡ Some p → lacks c p.0 ≡ true
 cut_lacks c bs p h =
     let q = cond_some (ltb (ahead c bs) (length bs)) _ p h in
-    subst (λ t. lacks c t.0 ≡ true) (some_same q.1) (ahead_lacks c bs)
+    subst (λ t. lacks c t.0 ≡ true) q.1 (ahead_lacks c bs)
 
 none_lacks : (c : ℕ) (bs : List ℕ) → cut_at c bs ≡ None → lacks c bs ≡ true
 none_lacks c bs h =

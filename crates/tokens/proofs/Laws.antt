@@ -22,7 +22,8 @@ use Rattle.tokens.specs.Said.{Said, section, numeral, minus, mark, told}
 use Rattle.tokens.specs.Written.{height_text, period_text, soil_text, group_text, walls_text}
 use Rattle.tokens.proofs.Cutting.{lacks}
 use Rattle.tokens.proofs.Decimals.{own, digit_in, forth, back}
-use Rattle.tokens.proofs.Options.{none_some, some_same, mapped_back, cond_some}
+use Rattle.std.proofs.lemmas.Option.{same_Some}
+use Rattle.tokens.proofs.Options.{none_some, mapped_back, cond_some}
 use Rattle.tokens.proofs.Told.{negated_number}
 use Rattle.tokens.proofs.Words.{Plain, spelled}
 
@@ -145,7 +146,7 @@ period_only (numeral w) o h =
     let q = mapped_back Some (number_of w) o h in
     let b = back w q.0 q.1 in
     subst (λ p. (w ≡ period_text p) × AllByRecursion Small (option_to_list p)) (sym q.2) (b.0, (b.1, tt))
-period_only (minus []) o h = subst (λ p. (45 ∷ [] ≡ period_text p) × AllByRecursion Small (option_to_list p)) (some_same h) (refl, tt)
+period_only (minus []) o h = subst (λ p. (45 ∷ [] ≡ period_text p) × AllByRecursion Small (option_to_list p)) (same_Some _ _ h) (refl, tt)
 period_only (minus (b ∷ bs)) o h = none_some h
 period_only (mark w) o h = none_some h
 
@@ -176,7 +177,7 @@ mark_only named text only (mark w) x h = (only w x h, tt)
 one_mark : {X : Type 0} (text : X → List ℕ) (w t : List ℕ) (m x : X) (o : Option X) → t ≡ text m → (o ≡ Some x → w ≡ text x) → cond (bytes_eq w t) (Some m) o ≡ Some x → w ≡ text x
 one_mark text w t m x o e later h =
     ⊎_elim
-    (λ is. (bytes_eq-Decides w t).0 is ∙ e ∙ ap text (some_same (sym (cond-true (bytes_eq w t) (Some m) o is) ∙ h)))
+    (λ is. (bytes_eq-Decides w t).0 is ∙ e ∙ ap text (same_Some _ _ (sym (cond-true (bytes_eq w t) (Some m) o is) ∙ h)))
     (λ isnt. later (sym (cond-false (bytes_eq w t) (Some m) o isnt) ∙ h))
     (cases_Bool (bytes_eq w t))
 

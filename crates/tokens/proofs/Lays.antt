@@ -9,7 +9,8 @@ use Rattle.tokens.specs.Text.{joined}
 use Rattle.tokens.specs.TextLines.{Left, then, next_word, next_field, heading_of}
 use Rattle.tokens.proofs.Cutting.{lacks, lacks-++}
 use Rattle.tokens.proofs.Laws.{Laws, number_laws}
-use Rattle.tokens.proofs.Options.{none_some, some_same, cond_some}
+use Rattle.std.proofs.lemmas.Option.{same_Some}
+use Rattle.tokens.proofs.Options.{none_some, cond_some}
 use Rattle.tokens.proofs.Words.{Plain, tail, word_forth, word_back, section_only}
 
 -- words before what is left of a line
@@ -38,7 +39,7 @@ field_back {X = X} {m = m} {text = text} {fits = fits} laws ws x rest h = cases 
         inner None e2 k2 = none_some k2
         inner (Some y) e2 k2 =
             let q = laws.only w.0 y e2 in
-            subst (λ t. (ws ≡ Some (text t.0 ++ tail t.1)) × fits t.0) (some_same k2) (word_back ws w.0 w.1 e ∙ ap (λ l. Some (l ++ tail w.1)) q.0, q.1)
+            subst (λ t. (ws ≡ Some (text t.0 ++ tail t.1)) × fits t.0) (same_Some _ _ k2) (word_back ws w.0 w.1 e ∙ ap (λ l. Some (l ++ tail w.1)) q.0, q.1)
 
 field_forth : {X : Type 0} {m : Said → Option X} {text : X → List ℕ} {fits : X → Type 0} → Laws m text fits → (x : X) → fits x → (rest : Left) → next_field m (Some (text x ++ tail rest)) ≡ Some (x, rest)
 field_forth {X = X} {m = m} {text = text} laws x h rest =
@@ -48,7 +49,7 @@ field_forth {X = X} {m = m} {text = text} laws x h rest =
 -- the record is complete
 pub complete : {A : Type 0} {picks : A → Type 0} {r : A} → picks r → ((x : A) → picks x → r ≡ x) → LaysPicked picks (λ ws. Some (r, ws)) (λ x. []) (λ x. Unit {0})
 complete {A = A} {picks = picks} picked same = record {
-  back = λ ws x rest h. subst (λ (t : A × Left). picks t.0 × (ws ≡ t.1) × Unit {0}) (some_same h) (picked, refl, tt);
+  back = λ ws x rest h. subst (λ (t : A × Left). picks t.0 × (ws ≡ t.1) × Unit {0}) (same_Some _ _ h) (picked, refl, tt);
   forth = λ x rest p h. ap (λ y. Some (y, rest)) (same x p);
   plain = λ x h. tt;
 }
@@ -119,7 +120,7 @@ onto_joined w (v ∷ vs) = ap (λ r. Some (w ++ tail r)) (onto_joined v vs)
 -- a line that is read to its end is its words
 pub onto_line : (ws : List (List ℕ)) (bs : List ℕ) → Some bs ≡ onto ws None → bs ≡ joined ws
 onto_line [] bs h = none_some (sym h)
-onto_line (w ∷ ws) bs h = some_same (h ∙ onto_joined w ws)
+onto_line (w ∷ ws) bs h = same_Some _ _ (h ∙ onto_joined w ws)
 
 pub line_onto : (ws : List (List ℕ)) → 1 ≤ length ws → Some (joined ws) ≡ onto ws None
 line_onto [] h = absurd (let bad : ⊥ = omega arith in bad)

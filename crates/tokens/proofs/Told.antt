@@ -1,16 +1,10 @@
 -- What a word is, by its first byte.
-use Rattle.std.proofs.Common.{◌≡◌, ℕ, ◌-◌, ◌<◌, ◌≤◌, eqb, List, [], ◌∷◌, length, get_or, take, drop, pos, neg_ℤ, sym, ap, ◌∙◌, arith}
+use Rattle.std.proofs.Common.{◌≡◌, ℕ, ◌<◌, ◌≤◌, List, [], ◌∷◌, length, get_or, pos, neg_ℤ, arith}
 use Rattle.std.specs.Option.{option_map}
 use Rattle.std.specs.Int.{is_in_range}
 use Rattle.tokens.specs.Numbers.{number_of, negated}
 use Rattle.tokens.proofs.Digits.{within_yes}
-use Rattle.std.proofs.lemmas.List.{take_rest}
-use Rattle.std.proofs.lemmas.Bool.{cond-true, eq-eqb}
-use Rattle.tokens.specs.Said.{told, minus}
-
-pub told_minus : (bs : List ℕ) → 0 < length bs → get_or bs 0 0 ≡ 45 → minus (take (length bs - 1) (drop 1 bs)) ≡ told bs
-told_minus [] h e = absurd (omega arith)
-told_minus (b ∷ bs) h e = ap minus (take_rest (b ∷ bs) 1) ∙ sym (cond-true (eqb b 45) _ _ (eq-eqb b 45 e))
+use Rattle.std.proofs.lemmas.Bool.{cond-true}
 
 -- after a minus
 pub negated_number : (bs : List ℕ) → 0 < length bs → 49 ≤ get_or bs 0 0 → get_or bs 0 0 ≤ 57 → negated bs ≡ option_map (λ n. neg_ℤ (pos n)) (number_of bs)

@@ -7,7 +7,8 @@ use Rattle.tokens.specs.Cuts.{cut_at, first_word, later_words}
 use Rattle.tokens.specs.Said.{Said, section, numeral, minus, mark, told, is_section, as_section}
 use Rattle.tokens.specs.TextLines.{Left, next_word}
 use Rattle.tokens.proofs.Cutting.{lacks, cut_none, cut_here, cut_back}
-use Rattle.tokens.proofs.Options.{none_some, some_same}
+use Rattle.std.proofs.lemmas.Option.{same_Some}
+use Rattle.tokens.proofs.Options.{none_some}
 
 -- a word that a line can hold, and not a long one
 pub record Plain (w : List ℕ) : Type 0 where
@@ -51,10 +52,10 @@ word_back (Some bs) s rest h = cases (cut_at 32 bs) refl h
   where
     cases : (o : Option (List ℕ × List ℕ)) → cut_at 32 bs ≡ o → ◌≡◌ {A = Option (Said × Left)} (Some (told (first_word o bs), later_words o)) (Some (s, rest)) → ◌≡◌ {A = Left} (Some bs) (Some (spelled s ++ tail rest))
     cases None e k =
-        let q = some_same k in
+        let q = same_Some _ _ k in
         ap Some (sym (spelled_told bs) ∙ sym (append-nil _) ∙ ap (λ t. spelled t.0 ++ tail t.1) q)
     cases (Some p) e k =
-        let q = some_same k in
+        let q = same_Some _ _ k in
         ap Some (cut_back 32 bs p e ∙ ap (λ l. l ++ (32 ∷ p.1)) (sym (spelled_told p.0)) ∙ ap (λ t. spelled t.0 ++ tail t.1) q)
 
 pub section_only : (name : List ℕ) (s : Said) → as_section name s ≡ true → spelled s ≡ name

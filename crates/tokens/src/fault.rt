@@ -5,7 +5,7 @@ ghost use Rattle.tokens.specs.Faults.{fault_number, fault_place, fault_line};
 use records::denial::Denial;
 
 /// What is wrong with a text, and on which line, counted from 1.
-#[derive(Clone, Copy)]
+#[derive(Clone, Copy, Debug, PartialEq, Eq)]
 pub enum Fault {
     /// The line is missing, or not laid out as it should be.
     Layout { line: u32 },
@@ -30,9 +30,7 @@ impl Fault {
         ensures { result ≡ fault_line self.now }
     {
         match *self {
-            Fault::Layout { line } => line,
-            Fault::Count { line } => line,
-            Fault::Surplus { line } => line,
+            Fault::Layout { line } | Fault::Count { line } | Fault::Surplus { line } => line,
         }
     }
 }

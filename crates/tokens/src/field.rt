@@ -1,13 +1,11 @@
 //! What a token says as a field of a record.
 ghost use Rattle.std.specs.Prelude.{◌≡◌, Option};
 ghost use Rattle.tokens.specs.Fields.{as_number, as_height, as_load, as_period, as_mark};
-ghost use Rattle.tokens.specs.Marks.{soil_named, group_named, walls_named};
 ghost use Rattle.tokens.specs.Said.{Said, meant};
 
-use crate::marks;
+use crate::marks::Mark;
 use crate::number::{negative, number, positive};
 use crate::token::Token;
-use records::card::{Group, Soil, Walls};
 use records::height::StoreyHeight;
 
 /// A value that one word of a line is read as.
@@ -22,7 +20,7 @@ pub trait Field: Sized {
 impl Field for u32 {
     ghost meaning = { as_number };
 
-    fn of(token: Token<'_>) -> Option<u32> {
+    fn of(token: Token<'_>) -> Option<Self> {
         match token {
             Token::Number(bytes) => number(bytes),
             _ => None,
@@ -33,23 +31,15 @@ impl Field for u32 {
 impl Field for StoreyHeight {
     ghost meaning = { as_height };
 
-    fn of(token: Token<'_>) -> Option<StoreyHeight> {
-        match token {
-            Token::Number(bytes) => {
-                match number(bytes) {
-                    Some(dm) => Some(StoreyHeight(dm)),
-                    None => None,
-                }
-            }
-            _ => None,
-        }
+    fn of(token: Token<'_>) -> Option<Self> {
+        u32::of(token).map(StoreyHeight)
     }
 }
 
 impl Field for i32 {
     ghost meaning = { as_load };
 
-    fn of(token: Token<'_>) -> Option<i32> {
+    fn of(token: Token<'_>) -> Option<Self> {
         match token {
             Token::Number(bytes) => positive(bytes),
             Token::Minus(after) => negative(after),
@@ -61,48 +51,21 @@ impl Field for i32 {
 impl Field for Option<u32> {
     ghost meaning = { as_period };
 
-    fn of(token: Token<'_>) -> Option<Option<u32>> {
+    fn of(token: Token<'_>) -> Option<Self> {
         match token {
-            Token::Number(bytes) => {
-                match number(bytes) {
-                    Some(n) => Some(Some(n)),
-                    None => None,
-                }
-            }
+            Token::Number(bytes) => number(bytes).map(Some),
             Token::Minus([]) => Some(None),
             _ => None,
         }
     }
 }
 
-impl Field for Soil {
-    ghost meaning = { as_mark soil_named };
+impl<M: Mark> Field for M {
+    ghost meaning = { as_mark M.named };
 
-    fn of(token: Token<'_>) -> Option<Soil> {
+    fn of(token: Token<'_>) -> Option<Self> {
         match token {
-            Token::Mark(mark) => marks::soil(mark),
-            _ => None,
-        }
-    }
-}
-
-impl Field for Group {
-    ghost meaning = { as_mark group_named };
-
-    fn of(token: Token<'_>) -> Option<Group> {
-        match token {
-            Token::Mark(mark) => marks::group(mark),
-            _ => None,
-        }
-    }
-}
-
-impl Field for Walls {
-    ghost meaning = { as_mark walls_named };
-
-    fn of(token: Token<'_>) -> Option<Walls> {
-        match token {
-            Token::Mark(mark) => marks::walls(mark),
+            Token::Mark(mark) => M::named(mark),
             _ => None,
         }
     }

@@ -1,46 +1,52 @@
 //! The marks of the card, exact and in upper case.
-ghost use Rattle.std.specs.Prelude.{◌≡◌};
+ghost use Rattle.std.specs.Prelude.{◌≡◌, ℕ, List, Option};
 ghost use Rattle.tokens.specs.Marks.{soil_named, group_named, walls_named};
 
-use crate::token::is_word;
 use records::card::{Group, Soil, Walls};
 
-pub(crate) fn soil(mark: &[u8]) -> Option<Soil>
-    ensures { result ≡ soil_named mark.now }
-{
-    if is_word(mark, b"I") {
-        Some(Soil::I)
-    } else if is_word(mark, b"II") {
-        Some(Soil::II)
-    } else if is_word(mark, b"III") {
-        Some(Soil::III)
-    } else {
-        None
+/// A value that is written as one of a few marks.
+pub trait Mark: Sized {
+    ghost named: { List ℕ → Option Self };
+
+    /// The value with this mark, or nothing where it is no such mark.
+    fn named(mark: &[u8]) -> Option<Self>
+        ensures { result ≡ named mark.now };
+}
+
+impl Mark for Soil {
+    ghost named = { soil_named };
+
+    fn named(mark: &[u8]) -> Option<Self> {
+        match mark {
+            b"I" => Some(Soil::I),
+            b"II" => Some(Soil::II),
+            b"III" => Some(Soil::III),
+            _ => None,
+        }
     }
 }
 
-pub(crate) fn group(mark: &[u8]) -> Option<Group>
-    ensures { result ≡ group_named mark.now }
-{
-    if is_word(mark, b"B") {
-        Some(Group::B)
-    } else if is_word(mark, b"A") {
-        Some(Group::A)
-    } else if is_word(mark, b"AA") {
-        Some(Group::AA)
-    } else {
-        None
+impl Mark for Group {
+    ghost named = { group_named };
+
+    fn named(mark: &[u8]) -> Option<Self> {
+        match mark {
+            b"B" => Some(Group::B),
+            b"A" => Some(Group::A),
+            b"AA" => Some(Group::AA),
+            _ => None,
+        }
     }
 }
 
-pub(crate) fn walls(mark: &[u8]) -> Option<Walls>
-    ensures { result ≡ walls_named mark.now }
-{
-    if is_word(mark, b"W") {
-        Some(Walls::Tied)
-    } else if is_word(mark, b"N") {
-        Some(Walls::Detached)
-    } else {
-        None
+impl Mark for Walls {
+    ghost named = { walls_named };
+
+    fn named(mark: &[u8]) -> Option<Self> {
+        match mark {
+            b"W" => Some(Walls::Tied),
+            b"N" => Some(Walls::Detached),
+            _ => None,
+        }
     }
 }

@@ -1,12 +1,13 @@
 //! Numbers: 0, or a digit 1 to 9 and up to eight more.
 ghost use Rattle.std.specs.Prelude.{◌≡◌, ℕ, ◌^◌, ◌<◌, ◌≤◌, length, pos, IfSome};
 ghost use Rattle.std.specs.Option.{option_map};
-ghost use Rattle.tokens.specs.Numbers.{onward, number_of, led, negated};
+ghost use Rattle.tokens.specs.Numbers.{onward, number_of, negated};
 
 // How many digits may follow the first, so that every number fits 30 bits.
 const MORE_DIGITS: usize = 8;
 
 // The number that some digits go on to write after the digit `start`.
+#[tactic(auto, using(crate::proofs::Digits::ten_most))]
 fn more_digits(start: u8, digits: &[u8]) -> Option<u32>
     requires start_bound { start < 10 }
     requires digits_len_bound { length digits.now ≤ 8 }
@@ -40,28 +41,17 @@ pub(crate) fn number(bytes: &[u8]) -> Option<u32>
 pub(crate) fn positive(bytes: &[u8]) -> Option<i32>
     ensures { result ≡ option_map pos (number_of bytes.now) }
 {
-    match number(bytes) {
-        Some(n) => Some(n as i32),
-        None => None,
-    }
-}
-
-// Whether a digit 1 to 9 comes first.
-fn leads(bytes: &[u8]) -> bool
-    ensures { result ≡ led bytes.now }
-{
-    match bytes {
-        [b'1'..=b'9', ..] => true,
-        _ => false,
-    }
+    let n = number(bytes)?;
+    Some(n as i32)
 }
 
 // A load whose minus sign stands before `after`. There is no minus zero.
 pub(crate) fn negative(after: &[u8]) -> Option<i32>
     ensures { result ≡ negated after.now }
 {
-    match number(after) {
-        Some(n) if leads(after) => Some(-(n as i32)),
-        _ => None,
-    }
+    let [b'1'..=b'9', ..] = after else {
+        return None;
+    };
+    let n = number(after)?;
+    Some(-(n as i32))
 }

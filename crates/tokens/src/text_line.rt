@@ -10,7 +10,7 @@ use crate::field::Field;
 use crate::token::{Word, opens, token_of};
 
 /// What is left of a line of a text: words with one space between them.
-#[derive(Clone, Copy)]
+#[derive(Clone, Copy, Debug, PartialEq, Eq)]
 pub struct TextLine<'a> {
     line: u32,
     // Nothing once the last word is taken; an empty line still has one word, an empty one.
@@ -24,16 +24,12 @@ impl<'a> TextLine<'a> {
         ensures parts { option_map (λ p. (left p.0, p.1.now)) result ≡ first_line text.now }
         ensures number { IfSome result (λ p. numbered p.0 ≡ number) }
     {
-        match cut(b'\n', text) {
-            Some((bytes, after)) => {
-                let words = TextLine {
-                    line: number,
-                    rest: Some(bytes),
-                };
-                Some((words, after))
-            }
-            None => None,
-        }
+        let (bytes, after) = cut(b'\n', text)?;
+        let words = TextLine {
+            line: number,
+            rest: Some(bytes),
+        };
+        Some((words, after))
     }
 
     /// The line's number in the text.
@@ -47,10 +43,7 @@ impl<'a> TextLine<'a> {
     pub fn is_over(&self) -> bool
         ensures { result ≡ none_left (left self.now) }
     {
-        match self.rest {
-            None => true,
-            Some(_) => false,
-        }
+        self.rest.is_none()
     }
 
     // The next word.
@@ -61,15 +54,11 @@ impl<'a> TextLine<'a> {
         ensures same { numbered self.new ≡ numbered self.old }
     {
         let line = self.number();
-        match self.rest {
-            Some(bytes) => {
-                let (word, after) = split_word(bytes);
-                self.rest = after;
-                let token = token_of(word);
-                Ok(Word { line, token })
-            }
-            None => Err(Fault::Layout { line }),
-        }
+        let bytes = self.rest.ok_or(Fault::Layout { line })?;
+        let (word, after) = split_word(bytes);
+        self.rest = after;
+        let token = token_of(word);
+        Ok(Word { line, token })
     }
 
     /// The next word, read as a field; a fault of layout where it is none.
@@ -79,10 +68,7 @@ impl<'a> TextLine<'a> {
         ensures same { numbered self.new ≡ numbered self.old }
     {
         let word = self.word()?;
-        match F::of(word.token) {
-            Some(x) => Ok(x),
-            None => Err(Fault::Layout { line: word.line }),
-        }
+        F::of(word.token).ok_or(Fault::Layout { line: word.line })
     }
 
     /// The count that follows the section word `name`; a fault of layout where they do not stand
@@ -102,7 +88,7 @@ impl<'a> TextLine<'a> {
 }
 
 // The first word of the rest of a line, and what follows the space after it.
-fn split_word<'a>(rest: &'a [u8]) -> (&'a [u8], Option<&'a [u8]>)
+fn split_word(rest: &[u8]) -> (&[u8], Option<&[u8]>)
     ensures word { result.0.now ≡ first_word (cut_at 32 rest.now) rest.now }
     ensures after { option_map (λ x. x.now) result.1 ≡ later_words (cut_at 32 rest.now) }
 {
