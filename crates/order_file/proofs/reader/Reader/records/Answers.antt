@@ -1,5 +1,4 @@
 use Rattle.std.proofs.Common.{◌+◌, vec_items, sym, subst, arith}
-use Rattle.std.proofs.lemmas.Result.{IfOk-from_err}
 use Rattle.order_file.specs.Reading.{place}
 use Rattle.order_file.proofs.Exits.{at_fault}
 use Rattle.order_file.proofs.Many.{Going, begun, faulty, one_more, all}
