@@ -13,7 +13,6 @@ after xs (Ok p) = Ok (xs ++ p.0, p.1)
 -- i records of n are read, they are xs, and the reader stands at p
 pub record Going {A : Type 0} (f : Left → Option (A × Left)) (n : ℕ) (from : Place) (i : ℕ) (xs : List A) (p : Place) : Type 0 where
   pub left : record_lines f n from ≡ after xs (record_lines f (n - i) p)
-  pub line : p.1 ≡ from.1 + i
 
 after_none : {A : Type 0} (o : Result (List A × Place) Fault) → o ≡ after [] o
 after_none (Err e) = refl
@@ -24,7 +23,7 @@ after_one xs x (Err e) = refl
 after_one xs x (Ok p) = ap (λ l. Ok (l, p.1)) (sym (append_assoc xs (x ∷ []) p.0))
 
 pub begun : {A : Type 0} (f : Left → Option (A × Left)) (n : ℕ) (from : Place) → Going f n from 0 [] from
-begun f n from = record { left = after_none _ ∙ ap (λ k. after [] (record_lines f k from)) (sym (sub-zero n)); line = omega arith }
+begun f n from = record { left = after_none _ ∙ ap (λ k. after [] (record_lines f k from)) (sym (sub-zero n)) }
 
 module _ {A : Type 0} {f : Left → Option (A × Left)} {n : ℕ} {from : Place} {i : ℕ} {xs : List A} {p : Place} (h : Going f n from i xs p) where
   at : (k : ℕ) → n - i ≡ k → record_lines f n from ≡ after xs (record_lines f k p)
@@ -33,13 +32,12 @@ module _ {A : Type 0} {f : Left → Option (A × Left)} {n : ℕ} {from : Place}
   pub faulty : (e : Fault) → i < n → record_line f p ≡ Err e → record_lines f n from ≡ Err e
   faulty e less bad = at (suc (n - (i + 1))) (omega arith) ∙ ap (λ o. after xs (next o (λ x q. next (record_lines f (n - (i + 1)) q) (λ ys r. Ok (x ∷ ys, r))))) bad
 
-  pub one_more : (x : A) (q : Place) → i < n → record_line f p ≡ Ok (x, q) → q.1 ≡ p.1 + 1 → Going f n from (i + 1) (xs ++ (x ∷ [])) q
-  one_more x q less good on = record {
+  pub one_more : (x : A) (q : Place) → i < n → record_line f p ≡ Ok (x, q) → Going f n from (i + 1) (xs ++ (x ∷ [])) q
+  one_more x q less good = record {
     left =
         at (suc (n - (i + 1))) (omega arith)
         ∙ ap (λ o. after xs (next o (λ y s. next (record_lines f (n - (i + 1)) s) (λ ys r. Ok (y ∷ ys, r))))) good
         ∙ after_one xs x (record_lines f (n - (i + 1)) q);
-    line = omega (arith, h.line);
   }
 
   pub all : n ≤ i → record_lines f n from ≡ Ok (xs, p)

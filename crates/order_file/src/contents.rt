@@ -7,7 +7,7 @@ use records::level::Level;
 use records::line::Line;
 
 /// The records of an order file. With a kit, the levels are those that stand on top of it.
-#[derive(Drop)]
+#[derive(Debug, Drop)]
 pub struct OrderFile {
     pub kit: Option<KitNumbers>,
     pub levels: Vec<Level>,

@@ -24,23 +24,15 @@ impl Record for KitNumbers {
     ghost layout = { read_kit };
 
     fn read(line: &mut TextLine<'_>) -> Result<KitNumbers, Fault> {
-        let levels = line.field()?;
-        let floor_weight = line.field()?;
-        let roof_weight = line.field()?;
-        let height = line.field()?;
-        let stiffness = line.field()?;
-        let mass_centre = line.field()?;
-        let torsion_centre = line.field()?;
-        let width = line.field()?;
         Ok(KitNumbers {
-            levels,
-            floor_weight,
-            roof_weight,
-            height,
-            stiffness,
-            mass_centre,
-            torsion_centre,
-            width,
+            levels: line.field()?,
+            floor_weight: line.field()?,
+            roof_weight: line.field()?,
+            height: line.field()?,
+            stiffness: line.field()?,
+            mass_centre: line.field()?,
+            torsion_centre: line.field()?,
+            width: line.field()?,
         })
     }
 }
@@ -49,19 +41,13 @@ impl Record for Level {
     ghost layout = { read_level };
 
     fn read(line: &mut TextLine<'_>) -> Result<Level, Fault> {
-        let weight = line.field()?;
-        let height = line.field()?;
-        let stiffness = line.field()?;
-        let mass_centre = line.field()?;
-        let torsion_centre = line.field()?;
-        let width = line.field()?;
         Ok(Level {
-            weight,
-            height,
-            stiffness,
-            mass_centre,
-            torsion_centre,
-            width,
+            weight: line.field()?,
+            height: line.field()?,
+            stiffness: line.field()?,
+            mass_centre: line.field()?,
+            torsion_centre: line.field()?,
+            width: line.field()?,
         })
     }
 }
@@ -70,9 +56,10 @@ impl Record for Line {
     ghost layout = { read_load };
 
     fn read(line: &mut TextLine<'_>) -> Result<Line, Fault> {
-        let level = line.field()?;
-        let load = line.field()?;
-        Ok(Line { level, load })
+        Ok(Line {
+            level: line.field()?,
+            load: line.field()?,
+        })
     }
 }
 
@@ -80,31 +67,19 @@ impl Record for Card {
     ghost layout = { read_card };
 
     fn read(line: &mut TextLine<'_>) -> Result<Card, Fault> {
-        let soil = line.field()?;
-        let group = line.field()?;
-        let c = line.field()?;
-        let a0 = line.field()?;
-        let ta = line.field()?;
-        let tb = line.field()?;
-        let period = line.field()?;
-        let q = line.field()?;
-        let correction = line.field()?;
-        let walls = line.field()?;
-        let load_factor = line.field()?;
-        let gap = line.field()?;
         Ok(Card {
-            soil,
-            group,
-            c,
-            a0,
-            ta,
-            tb,
-            period,
-            q,
-            correction,
-            walls,
-            load_factor,
-            gap,
+            soil: line.field()?,
+            group: line.field()?,
+            c: line.field()?,
+            a0: line.field()?,
+            ta: line.field()?,
+            tb: line.field()?,
+            period: line.field()?,
+            q: line.field()?,
+            correction: line.field()?,
+            walls: line.field()?,
+            load_factor: line.field()?,
+            gap: line.field()?,
         })
     }
 }

@@ -1,5 +1,4 @@
 use Rattle.std.proofs.Common.{◌+◌, vec_items, sym, subst, arith}
-use Rattle.std.proofs.lemmas.Result.{IfOk-from_err}
 use Rattle.order_file.specs.Reading.{place}
 use Rattle.order_file.proofs.Exits.{at_fault}
 use Rattle.order_file.proofs.Many.{Going, begun, faulty, one_more, all}
@@ -13,27 +12,16 @@ loop-init g c = (
   c.new-records.ensures.len,
 )
 
-pub record-requires : goal.record-requires
-record-requires g c = omega (arith, c.loop.invariant.0.line)
-
-pub returns-in_err-record : goal.returns-in_err-record
-returns-in_err-record g c = record {
-  read = at_fault vec_items c.from_residual.result _ _ c.from_residual.ensures.1 (faulty c.loop.invariant.0 _ c.loop-test.true c.in_err-record.ensures.read);
-  line = IfOk-from_err c.from_residual.result _ c.from_residual.ensures.0;
-  count = IfOk-from_err c.from_residual.result _ c.from_residual.ensures.0;
-}
+pub returns-in_err-record-clause-read : goal.returns-in_err-record-clause-read
+returns-in_err-record-clause-read g c = at_fault vec_items c.from_residual.result _ _ c.from_residual.ensures.1 (faulty c.loop.invariant.0 _ c.loop-test.true c.in_err-record.ensures)
 
 pub loop-preserved : goal.loop-preserved
 loop-preserved g c = (
   subst (λ xs. Going g.R.Record.layout c.args.count (place c.args.self.now) (c.loop.counter + 1) xs (place c.record.new.self))
       (sym c.in_ok-push.ensures.items)
-      (one_more c.loop.invariant.0 c.in_ok-record.field-0 (place c.record.new.self) c.loop-test.true c.in_ok-record.ensures.read c.in_ok-record.ensures.line),
+      (one_more c.loop.invariant.0 c.in_ok-record.field-0 (place c.record.new.self) c.loop-test.true c.in_ok-record.ensures),
   omega (arith, c.in_ok-push.ensures.len, c.loop.invariant.1),
 )
 
-pub returns : goal.returns
-returns g c = record {
-  read = all c.loop.invariant.0 c.loop-test.false;
-  line = omega (arith, c.loop.invariant.0.line);
-  count = omega (arith, c.loop.invariant.1);
-}
+pub returns-clause-read : goal.returns-clause-read
+returns-clause-read g c = all c.loop.invariant.0 c.loop-test.false
