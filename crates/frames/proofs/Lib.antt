@@ -2,3 +2,4 @@ pub mod Heights
 pub mod Pushes
 pub mod Scans
 pub mod Tables
+pub mod Walks

@@ -12,3 +12,4 @@ pub mod Cases
 pub mod Lists
 pub mod Places
 pub mod KitLists
+pub mod Walks

@@ -1,6 +1,7 @@
 -- What is known of a list of levels, place by place, and of a sound one.
 use Rattle.std.specs.Prelude.{◌≡◌, ℕ, zero, suc, ◌+◌, ◌*◌, ◌≤◌, min, true, List, [], ◌∷◌, ◌++◌, length, take, Some, None, nat_le}
 use Rattle.std.proofs.Common.{sym, ap, ◌∙◌, inl, inr, arith, take_all}
+use Rattle.std.proofs.lemmas.List.Sums.{sum_by-cons}
 use Rattle.std.proofs.lemmas.Bool.{leb-true, le-leb, and_parts, and_from, cases_lt}
 use Rattle.records.specs.declared.level.Level.{Level}
 use Rattle.records.specs.Ranges.{level_fits, weight_fits}
@@ -13,7 +14,7 @@ fit_weight l h =
 
 weight_le : (ls : List Level) → all_fit ls ≡ true → weight_of ls ≤ 5000 * length ls
 weight_le [] h = omega arith
-weight_le (l ∷ ls) h = let p = and_parts (level_fits l) (all_fit ls) h in omega (arith, fit_weight l p.0, weight_le ls p.1)
+weight_le (l ∷ ls) h = let p = and_parts (level_fits l) (all_fit ls) h in omega (arith, sum_by-cons (λ (l : Level). l.weight) l ls, fit_weight l p.0, weight_le ls p.1)
 
 pub record Limits (ls : List Level) : Type 0 where
   pub few : length ls ≤ 24

@@ -2,7 +2,9 @@
 ghost use Rattle.std.specs.Prelude.{◌≡◌, List, length};
 ghost use Rattle.records.specs.declared.level.Level.{Level};
 ghost use Rattle.frames.specs.Levels.{Sound, level_at, top_of, weight_of};
+ghost use Rattle.frames.specs.Walks.{levels_left};
 
+use crate::levels::Levels;
 use records::height::LevelHeight;
 use records::level::Level;
 
@@ -18,15 +20,26 @@ pub trait Frame {
     fn level(&self, k: u32) -> Option<Level>
         ensures { result ≡ level_at (list self.now) k };
 
+    /// The levels, from the lowest up.
+    final fn levels(&self) -> Levels<'_, Self>
+    where
+        Self: Sized,
+        ensures { levels_left list result ≡ list self.now }
+    {
+        Levels {
+            frame: self,
+            passed: 0,
+        }
+    }
+
     /// The height of the last level over the ground. The running sum never passes the limit, by the law.
-    fn top(&self) -> LevelHeight
+    final fn top(&self) -> LevelHeight
+    where
+        Self: Sized,
         ensures { result ≡ top_of (list self.now) }
     {
         let mut top = LevelHeight::ground();
-        for below in 0..self.count() {
-            let Some(level) = self.level(below + 1) else {
-                unreachable()
-            };
+        for level in self.levels() {
             let Some(higher) = top.above(level.height) else {
                 unreachable()
             };
@@ -36,17 +49,12 @@ pub trait Frame {
     }
 
     /// The weight of all levels, in tenths of a tonne.
-    fn total_weight(&self) -> u32
+    final fn total_weight(&self) -> u32
+    where
+        Self: Sized,
         ensures { result ≡ weight_of (list self.now) }
     {
-        let mut sum = 0;
-        for i in 0..self.count() {
-            let Some(level) = self.level(i + 1) else {
-                unreachable()
-            };
-            sum += level.weight;
-        }
-        sum
+        self.levels().map(|level| level.weight).sum()
     }
 
     ghost sound: { (f : Self) → Sound (list f) };

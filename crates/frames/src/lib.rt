@@ -6,6 +6,7 @@ pub mod denial;
 pub mod frame;
 mod judge;
 pub mod kit;
+pub mod levels;
 mod listed;
 mod storeys;
 pub mod topping;

@@ -1,27 +1,12 @@
-use Rattle.std.proofs.Common.{◌≤◌, length, sym, ap, ◌∙◌, arith, take_all}
-use Rattle.records.specs.declared.level.Level.{Level}
-use Rattle.frames.specs.Levels.{weight_of}
-use Rattle.frames.specs.Lists.{limits, total_more, total_within, none_over}
+use Rattle.std.proofs.Common.{arith, rules, tests}
+use Rattle.std.proofs.lemmas.Iterator.{YieldsList-from_map}
+use Rattle.std.proofs.lemmas.Iterator.Consumers.{YieldsList-at, YieldsList-from_first, fits_by_from_yields_list}
+use Rattle.frames.specs.Lists.{limits}
+use Rattle.frames.specs.Walks.{levels_left}
 use Rattle.frames.proofs.frame.Frame.total_weight.Goals as goal
 
-pub unreachable-requires : goal.unreachable-requires
-unreachable-requires g c =
+pub sum-requires-clause-fits : goal.sum-requires-clause-fits
+sum-requires-clause-fits g c =
     let ls = g.Self.Frame.list c.args.self.now in
-    omega (arith, c.count-i-end.ensures, none_over ls c.loop-i.i (sym c.in_default.ensures))
-
-pub overflow_add-sum : goal.overflow_add-sum
-overflow_add-sum g c =
-    let ls = g.Self.Frame.list c.args.self.now in
-    let s = limits ls (g.met.Self.Frame.sound c.args.self.now) in
-    omega (arith, c.loop-i.invariant, total_within (λ (l : Level). l.weight) ls c.loop-i.i c.in-Some.level (sym c.in-Some.ensures))
-
-pub loop-i-preserved : goal.loop-i-preserved
-loop-i-preserved g c =
-    let ls = g.Self.Frame.list c.args.self.now in
-    omega (arith, c.loop-i.invariant, total_more (λ (l : Level). l.weight) ls c.loop-i.i c.in-Some.level (sym c.in-Some.ensures))
-
-pub returns : goal.returns
-returns g c =
-    let ls = g.Self.Frame.list c.args.self.now in
-    let h : length ls ≤ c.loop-i.i = omega (arith, c.count-i-end.ensures) in
-    c.loop-i.invariant ∙ ap weight_of (take_all _ ls h)
+    let light = (limits ls (g.met.Self.Frame.sound c.args.self.now)).light in
+    fits_by_from_yields_list _ _ c.map.result _ (YieldsList-from_map _ (λ l. l.weight) (YieldsList-at c.map.ensures.source (YieldsList-from_first (λ l. l) (levels_left g.Self.Frame.list) ls c.levels.ensures)) c.map.ensures.closure (λ x r q k. search (rules, tests))) (omega (arith, light))
