@@ -1,1 +1,1 @@
-pub mod Lines
+pub mod Walks

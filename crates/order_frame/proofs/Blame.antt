@@ -21,7 +21,7 @@ use Rattle.order_frame.specs.declared.refusal.Refusal.{Refusal}
 use Rattle.order_frame.specs.Blame.{HoldsKit, HoldsLevel, HoldsRecord, Blames}
 use Rattle.order_frame.specs.Frames.{kit_levels, first_added_denial, frame_denial}
 use Rattle.order_frame.specs.Outcomes.{framed, judged, outcome}
-use Rattle.order_frame.specs.Refusals.{kit_count, blamed_line, listed_line, found_line, frame_refusal}
+use Rattle.order_frame.specs.Refusals.{kit_count, blamed_line, listed_line, found_line, refusal_line, frame_refusal}
 use Rattle.order_frame.proofs.Reasons.{added_some, denied_reason}
 
 -- level k is one that the file lists, over the kit
@@ -157,7 +157,7 @@ blames f bytes d r is lines few denied told =
       d,
       told,
       denied_reason f.kit f.levels d denied,
-      subst (λ (x : Refusal). HoldsRecord f d x.line bytes) (sym told) (holds f bytes d lines (located f d few denied)),
+      subst (λ (x : Refusal). HoldsRecord f d (refusal_line x) bytes) (sym told) (holds f bytes d lines (located f d few denied)),
     )
 
 -- what such a file comes to

@@ -7,8 +7,8 @@ use Rattle.records.specs.declared.level.Level.{Level}
 use Rattle.records.specs.Ranges.{level_fits}
 use Rattle.frames.specs.declared.denial.FrameDenial.{FrameDenial}
 use Rattle.frames.specs.declared.denial.FrameDenial.TheVariants.{TooManyLevels, OutOfRange, TooHigh, KitOutOfRange, KitTooHigh}
-use Rattle.frames.specs.declared.denial.NotLaid.{NotLaid}
-use Rattle.frames.specs.declared.denial.NotLaid.TheVariants.{Denied, NoMemory}
+use Rattle.records.specs.declared.failure.Failure.{Failure}
+use Rattle.records.specs.declared.failure.Failure.TheVariants.{Denied, NoMemory}
 use Rattle.frames.specs.Kits.{kit_in_range, kit_denial, kit_list}
 use Rattle.frames.specs.Levels.{Sound, level_at, level_height, height_of}
 use Rattle.frames.specs.Steps.{step_denial, stands}
@@ -149,7 +149,7 @@ denied_reason (Some n) levels d e =
           (kit_length n (ranged n f).some ∙ (let z : n.levels ≡ n.levels + 0 = omega arith in z)) (omega arith) more
     ]
 
-pub reasoned : (kit : Option KitNumbers) (levels : List Level) (r : Result OrderFrame NotLaid) → Framed kit levels r → Reasoned kit levels r
+pub reasoned : (kit : Option KitNumbers) (levels : List Level) (r : Result OrderFrame (Failure FrameDenial)) → Framed kit levels r → Reasoned kit levels r
 reasoned kit levels (Ok f) h = good_sound kit levels h.0
 reasoned kit levels (Err (Denied d)) h = denied_reason kit levels d h
 reasoned kit levels (Err NoMemory) h = good_sound kit levels h.0

@@ -2,6 +2,8 @@
 use Rattle.std.specs.Prelude.{◌≡◌, ℕ, List, Some, Ok, Err, Result}
 use Rattle.records.specs.declared.kit_numbers.KitNumbers.{KitNumbers}
 use Rattle.records.specs.declared.level.Level.{Level}
+use Rattle.records.specs.declared.failure.Failure.{Failure}
+use Rattle.records.specs.declared.failure.Failure.TheVariants.{Denied, NoMemory}
 use Rattle.tokens.specs.declared.fault.Fault.{Fault}
 use Rattle.tokens.specs.Text.{joined}
 use Rattle.frames.specs.declared.denial.FrameDenial.{FrameDenial}
@@ -10,13 +12,11 @@ use Rattle.frames.specs.Levels.{level_at}
 use Rattle.order_file.specs.File.{Filed, order_file_of}
 use Rattle.order_file.specs.Lines.{line_at}
 use Rattle.order_file.specs.Render.{kit_words, level_words}
-use Rattle.order_frame.specs.declared.opened.NotOpened.{NotOpened}
-use Rattle.order_frame.specs.declared.opened.NotOpened.TheVariants.{Refused, NoMemory}
 use Rattle.order_frame.specs.declared.opened.Opened.{Opened}
 use Rattle.order_frame.specs.declared.refusal.Refusal.{Refusal}
 use Rattle.order_frame.specs.Frames.{frame_levels}
 use Rattle.order_frame.specs.Reasons.{Reason}
-use Rattle.order_frame.specs.Refusals.{frame_refusal}
+use Rattle.order_frame.specs.Refusals.{refusal_line, frame_refusal}
 
 -- the line holds the kit's record
 abbrev pub HoldsKit : Filed → ℕ → List ℕ → Type 0
@@ -38,9 +38,9 @@ HoldsRecord f KitTooHigh line bytes = HoldsKit f line bytes
 -- refusal tells the line of the record at fault
 abbrev pub Blames : Refusal → Result Filed Fault → List ℕ → Type 0
 Blames r (Err e) bytes = Unit {0}
-Blames r (Ok f) bytes = (d : FrameDenial) × (r ≡ frame_refusal f d) × Reason f.kit f.levels d × HoldsRecord f d r.line bytes
+Blames r (Ok f) bytes = (d : FrameDenial) × (r ≡ frame_refusal f d) × Reason f.kit f.levels d × HoldsRecord f d (refusal_line r) bytes
 
-abbrev pub Blamed : Result Opened NotOpened → List ℕ → Type 0
+abbrev pub Blamed : Result Opened (Failure Refusal) → List ℕ → Type 0
 Blamed (Ok o) bytes = Unit {0}
-Blamed (Err (Refused r)) bytes = Blames r (order_file_of bytes) bytes
+Blamed (Err (Denied r)) bytes = Blames r (order_file_of bytes) bytes
 Blamed (Err NoMemory) bytes = Unit {0}

@@ -4,4 +4,3 @@ pub mod OrderFrames
 pub mod Outcomes
 pub mod Reasons
 pub mod Refusals
-pub mod Unread

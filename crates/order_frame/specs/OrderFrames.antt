@@ -3,8 +3,8 @@ use Rattle.std.specs.Prelude.{◌≡◌, List, Some, None, Ok, Err, Option, Resu
 use Rattle.records.specs.declared.kit_numbers.KitNumbers.{KitNumbers}
 use Rattle.records.specs.declared.level.Level.{Level}
 use Rattle.frames.specs.declared.denial.FrameDenial.{FrameDenial}
-use Rattle.frames.specs.declared.denial.NotLaid.{NotLaid}
-use Rattle.frames.specs.declared.denial.NotLaid.TheVariants.{Denied, NoMemory}
+use Rattle.records.specs.declared.failure.Failure.{Failure}
+use Rattle.records.specs.declared.failure.Failure.TheVariants.{Denied, NoMemory}
 use Rattle.frames.specs.declared.kit.Kit.{Kit}
 use Rattle.frames.specs.declared.topping.Topping.{Topping}
 use Rattle.frames.specs.KitFrames.{made_list}
@@ -19,7 +19,7 @@ frame_list (Typed t) = typed_list t
 frame_list (Topped t) = topped made_list t
 
 -- the frame of exactly these levels, or the denial; memory is wanting only for a table without denial, never on a kit
-abbrev pub Framed : Option KitNumbers → List Level → Result OrderFrame NotLaid → Type 0
+abbrev pub Framed : Option KitNumbers → List Level → Result OrderFrame (Failure FrameDenial) → Type 0
 Framed kit levels (Ok f) = (frame_denial kit levels ≡ None) × (frame_list f ≡ frame_levels kit levels)
 Framed kit levels (Err (Denied d)) = frame_denial kit levels ≡ Some d
 Framed kit levels (Err NoMemory) = (frame_denial kit levels ≡ None) × (kit ≡ None)

@@ -1,15 +1,16 @@
 -- What the bytes of an order file come to.
 use Rattle.std.specs.Prelude.{◌≡◌, ℕ, List, Some, None, Ok, Err, Option, Result}
+use Rattle.records.specs.declared.failure.Failure.{Failure}
+use Rattle.records.specs.declared.failure.Failure.TheVariants.{Denied, NoMemory}
 use Rattle.tokens.specs.declared.fault.Fault.{Fault}
 use Rattle.frames.specs.declared.denial.FrameDenial.{FrameDenial}
 use Rattle.order_file.specs.File.{Filed, filed, order_file_of}
 use Rattle.order_frame.specs.declared.opened.Opened.{Opened}
-use Rattle.order_frame.specs.declared.opened.NotOpened.{NotOpened}
-use Rattle.order_frame.specs.declared.opened.NotOpened.TheVariants.{Refused, NoMemory}
 use Rattle.order_frame.specs.declared.refusal.Refusal.{Refusal}
+use Rattle.order_frame.specs.declared.refusal.Refusal.TheVariants.{Faulty}
 use Rattle.order_frame.specs.Frames.{frame_levels, frame_denial}
 use Rattle.order_frame.specs.OrderFrames.{frame_list}
-use Rattle.order_frame.specs.Refusals.{fault_refusal, frame_refusal}
+use Rattle.order_frame.specs.Refusals.{frame_refusal}
 
 -- the frame is judged once the records are read
 abbrev pub framed : Filed → Option FrameDenial → Result Filed Refusal
@@ -18,14 +19,14 @@ framed f (Some d) = Err (frame_refusal f d)
 
 abbrev pub judged : Result Filed Fault → Result Filed Refusal
 judged (Ok f) = framed f (frame_denial f.kit f.levels)
-judged (Err e) = Err (fault_refusal e)
+judged (Err e) = Err (Faulty e)
 
 -- the records of a file whose frame stands, or the refusal
 abbrev pub outcome : List ℕ → Result Filed Refusal
 outcome bytes = judged (order_file_of bytes)
 
 -- the records with the frame of their levels, or the refusal; nothing is said where memory is wanting
-abbrev pub OpenedAs : Result Opened NotOpened → Result Filed Refusal → Type 0
+abbrev pub OpenedAs : Result Opened (Failure Refusal) → Result Filed Refusal → Type 0
 OpenedAs (Ok o) want = (want ≡ Ok (filed o.file)) × (frame_list o.frame ≡ frame_levels o.file.kit (filed o.file).levels)
-OpenedAs (Err (Refused r)) want = want ≡ Err r
+OpenedAs (Err (Denied r)) want = want ≡ Err r
 OpenedAs (Err NoMemory) want = Unit {0}

@@ -5,8 +5,8 @@ use Rattle.records.specs.declared.kit_numbers.KitNumbers.{KitNumbers}
 use Rattle.records.specs.declared.level.Level.{Level}
 use Rattle.frames.specs.declared.denial.FrameDenial.{FrameDenial}
 use Rattle.frames.specs.declared.denial.FrameDenial.TheVariants.{TooManyLevels, OutOfRange, TooHigh, KitOutOfRange, KitTooHigh}
-use Rattle.frames.specs.declared.denial.NotLaid.{NotLaid}
-use Rattle.frames.specs.declared.denial.NotLaid.TheVariants.{Denied, NoMemory}
+use Rattle.records.specs.declared.failure.Failure.{Failure}
+use Rattle.records.specs.declared.failure.Failure.TheVariants.{Denied, NoMemory}
 use Rattle.frames.specs.Kits.{kit_in_range}
 use Rattle.frames.specs.Levels.{Sound, level_height}
 use Rattle.frames.specs.Tables.{IsInRange, IsOutOfRange}
@@ -32,7 +32,7 @@ Reason kit levels KitOutOfRange = (n : KitNumbers) × (kit ≡ Some n) × (kit_i
 Reason kit levels KitTooHigh = (n : KitNumbers) × (kit ≡ Some n) × (kit_in_range n ≡ true) × (height_limit < n.levels * n.height.0)
 
 -- a frame is made of levels that are one, and denied for a reason
-abbrev pub Reasoned : Option KitNumbers → List Level → Result OrderFrame NotLaid → Type 0
+abbrev pub Reasoned : Option KitNumbers → List Level → Result OrderFrame (Failure FrameDenial) → Type 0
 Reasoned kit levels (Ok f) = Sound (frame_levels kit levels)
 Reasoned kit levels (Err (Denied d)) = Reason kit levels d
 Reasoned kit levels (Err NoMemory) = Sound (frame_levels kit levels)

@@ -10,17 +10,26 @@ use Rattle.frames.specs.Denials.{denial_number, denial_place}
 use Rattle.order_file.specs.File.{Filed}
 use Rattle.order_file.specs.Lines.{kit_line, level_line, where_listed}
 use Rattle.order_frame.specs.declared.refusal.Refusal.{Refusal}
+use Rattle.order_frame.specs.declared.refusal.Refusal.TheVariants.{Faulty, Unframed}
 
-abbrev pub refusal : ℕ → ℕ → ℕ → Refusal
-refusal number line place = record { number = number; line = line; place = place }
+-- the number that a refusal is told by
+abbrev pub refusal_number : Refusal → ℕ
+refusal_number (Faulty e) = fault_number e
+refusal_number (Unframed d line) = denial_number d
+
+-- the line of the file that is to blame
+abbrev pub refusal_line : Refusal → ℕ
+refusal_line (Faulty e) = fault_line e
+refusal_line (Unframed d line) = line
+
+-- the place that it is about
+abbrev pub refusal_place : Refusal → ℕ
+refusal_place (Faulty e) = fault_place e
+refusal_place (Unframed d line) = denial_place d
 
 -- the words that it is printed with
 abbrev pub refused_words : Refusal → List (List ℕ)
-refused_words r = codes "REFUSED" ∷ decimal r.number ∷ decimal r.line ∷ decimal r.place ∷ []
-
--- a faulty file is to blame on its faulty line
-abbrev pub fault_refusal : Fault → Refusal
-fault_refusal e = refusal (fault_number e) (fault_line e) (fault_place e)
+refused_words r = codes "REFUSED" ∷ decimal (refusal_number r) ∷ decimal (refusal_line r) ∷ decimal (refusal_place r) ∷ []
 
 -- how many levels stand below the first that the file lists
 abbrev pub kit_count : Option KitNumbers → ℕ
@@ -37,7 +46,7 @@ blamed_line f KitTooHigh = kit_line
 
 -- the refusal of the file's frame
 abbrev pub frame_refusal : Filed → FrameDenial → Refusal
-frame_refusal f d = refusal (denial_number d) (blamed_line f d) (denial_place d)
+frame_refusal f d = Unframed d (blamed_line f d)
 
 -- the line of level k of the frame, where the file lists it
 abbrev pub listed_line : Filed → ℕ → Option ℕ

@@ -11,11 +11,10 @@ pub(crate) fn record_line(file: &OrderFile, denial: FrameDenial) -> Option<u32>
     ensures { result ≡ found_line (filed file.now) denial }
 {
     match denial {
-        FrameDenial::KitOutOfRange => file.kit_line(),
-        FrameDenial::KitTooHigh => file.kit_line(),
-        FrameDenial::TooManyLevels { level } => listed_line(file, level),
-        FrameDenial::OutOfRange { level } => listed_line(file, level),
-        FrameDenial::TooHigh { level } => listed_line(file, level),
+        FrameDenial::KitOutOfRange | FrameDenial::KitTooHigh => file.kit_line(),
+        FrameDenial::TooManyLevels { level }
+        | FrameDenial::OutOfRange { level }
+        | FrameDenial::TooHigh { level } => listed_line(file, level),
     }
 }
 
@@ -30,8 +29,5 @@ fn listed_line(file: &OrderFile, level: u32) -> Option<u32>
 fn kit_count(file: &OrderFile) -> u32
     ensures { result ≡ kit_count file.now.kit }
 {
-    match file.kit {
-        Some(numbers) => numbers.levels,
-        None => 0,
-    }
+    file.kit.map_or(0, |numbers| numbers.levels)
 }

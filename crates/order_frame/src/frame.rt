@@ -8,11 +8,12 @@ ghost use Rattle.frames.specs.KitLists.{kit_sound};
 ghost use Rattle.frames.specs.Stacks.{stacked_sound};
 ghost use Rattle.order_frame.specs.declared.frame.OrderFrame.TheVariants.{Typed, Topped};
 
-use frames::denial::{FrameDenial, NotLaid};
+use frames::denial::FrameDenial;
 use frames::frame::Frame;
 use frames::kit::Kit;
 use frames::topping::Topping;
 use frames::typed::Typed;
+use records::failure::Failure;
 use records::kit_numbers::KitNumbers;
 use records::level::Level;
 use std::alloc::Global;
@@ -30,7 +31,7 @@ impl OrderFrame {
         kit: Option<KitNumbers>,
         levels: &[Level],
         heap: Global,
-    ) -> Result<OrderFrame, NotLaid>
+    ) -> Result<OrderFrame, Failure<FrameDenial>>
         ensures frame { Framed kit levels.now result }
         ensures reason { Reasoned kit levels.now result }
     {
@@ -39,7 +40,7 @@ impl OrderFrame {
 }
 
 // Lays the levels, or puts them on the kit from below.
-fn make(kit: Option<KitNumbers>, levels: &[Level], heap: Global) -> Result<OrderFrame, NotLaid>
+fn make(kit: Option<KitNumbers>, levels: &[Level], heap: Global) -> Result<OrderFrame, Failure<FrameDenial>>
     ensures { Framed kit levels.now result }
 {
     match kit {

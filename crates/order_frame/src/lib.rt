@@ -10,10 +10,11 @@ ghost use Rattle.order_frame.specs.Outcomes.{outcome, OpenedAs};
 
 use denied::record_line;
 use frame::OrderFrame;
-use frames::denial::{FrameDenial, NotLaid};
-use opened::{NotOpened, Opened};
+use frames::denial::FrameDenial;
+use opened::Opened;
 use order_file::contents::OrderFile;
 use order_file::read;
+use records::failure::Failure;
 use refusal::Refusal;
 use std::alloc::Global;
 
@@ -23,16 +24,16 @@ pub mod opened;
 pub mod refusal;
 
 /// Reads an order file and makes its frame: the file is judged first, then the kit, then the levels from below.
-pub fn open(bytes: &[u8], heap: Global) -> Result<Opened, NotOpened>
+pub fn open(bytes: &[u8], heap: Global) -> Result<Opened, Failure<Refusal>>
     ensures told { OpenedAs result (outcome bytes.now) }
     ensures front { OpenedAs result (outcome (take byte_limit bytes.now)) }
     ensures blame { Blamed result bytes.now }
 {
-    let file = read(bytes, heap)?;
+    let file = read(bytes, heap).map_err(Failure::widen)?;
     match OrderFrame::new(file.kit, &file.levels, heap) {
         Ok(frame) => Ok(Opened { file, frame }),
-        Err(NotLaid::Denied(denial)) => Err(NotOpened::Refused(refusal_of(&file, denial))),
-        Err(NotLaid::NoMemory) => Err(NotOpened::NoMemory),
+        Err(Failure::Denied(denial)) => Err(Failure::Denied(refusal_of(&file, denial))),
+        Err(Failure::NoMemory) => Err(Failure::NoMemory),
     }
 }
 
@@ -42,8 +43,6 @@ fn refusal_of(file: &OrderFile, denial: FrameDenial) -> Refusal
     ensures told { (bytes : List ℕ) → order_file_of bytes ≡ Ok (filed file.now) → outcome bytes ≡ Err result }
     ensures blame { (bytes : List ℕ) → order_file_of bytes ≡ Ok (filed file.now) → LinedUp (filed file.now) bytes → Blames result (order_file_of bytes) bytes }
 {
-    let Some(line) = record_line(file, denial) else {
-        unreachable()
-    };
-    Refusal::on_line(&denial, line)
+    let line = record_line(file, denial).unwrap();
+    Refusal::Unframed { denial, line }
 }

@@ -1,40 +1,67 @@
 //! A refusal as every program prints it.
-ghost use Rattle.std.specs.Prelude.{◌≡◌, map};
-ghost use Rattle.printing.specs.Words.{spelled};
-ghost use Rattle.order_frame.specs.Refusals.{refusal, refused_words};
+ghost use Rattle.std.specs.Prelude.{◌≡◌, Some};
+ghost use Rattle.tokens.specs.Text.{joined};
+ghost use Rattle.order_frame.specs.Refusals.{refusal_number, refusal_line, refusal_place, refused_words};
+ghost use Rattle.order_frame.specs.declared.refusal.Refusal.TheVariants.{Faulty};
 
-use printing::Word;
+use frames::denial::FrameDenial;
 use records::denial::Denial;
+use std::fmt;
+use tokens::fault::Fault;
 
-/// What is refused, by its number, the line of the file that is to blame, and the place.
-#[derive(Clone, Copy)]
-pub struct Refusal {
-    pub number: u32,
-    pub line: u32,
-    pub place: u32,
+/// Why an order file has no frame.
+#[derive(Clone, Copy, Debug, PartialEq, Eq)]
+pub enum Refusal {
+    /// The bytes are no order file.
+    Faulty(Fault),
+    /// The frame of its records is denied, for the record on this line.
+    Unframed { denial: FrameDenial, line: u32 },
 }
 
 impl Refusal {
-    /// The refusal of a denial that a line is to blame for.
-    pub fn on_line<D: Denial>(denial: &D, line: u32) -> Refusal
-        ensures { result ≡ refusal (D.Denial.numbered denial.now) line (D.Denial.placed denial.now) }
+    /// The line of the file that is to blame.
+    pub fn line(&self) -> u32
+        ensures { result ≡ refusal_line self.now }
     {
-        Refusal {
-            number: denial.number(),
-            line,
-            place: denial.place(),
+        match self {
+            Refusal::Faulty(fault) => fault.line(),
+            Refusal::Unframed { line, .. } => *line,
+        }
+    }
+}
+
+impl Denial for Refusal {
+    ghost numbered = { refusal_number };
+
+    ghost placed = { refusal_place };
+
+    fn number(&self) -> u32 {
+        match self {
+            Refusal::Faulty(fault) => fault.number(),
+            Refusal::Unframed { denial, .. } => denial.number(),
         }
     }
 
-    /// The words of its line.
-    pub fn words(&self) -> [Word; 4]
-        ensures { map spelled result ≡ refused_words self.now }
-    {
-        [
-            Word::Text("REFUSED"),
-            Word::Number(self.number as i64),
-            Word::Number(self.line as i64),
-            Word::Number(self.place as i64),
-        ]
+    fn place(&self) -> u32 {
+        match self {
+            Refusal::Faulty(fault) => fault.place(),
+            Refusal::Unframed { denial, .. } => denial.place(),
+        }
+    }
+}
+
+impl From<Fault> for Refusal {
+    ghost from_gives = { λ fault r. r ≡ Faulty fault };
+
+    fn from(fault: Fault) -> Refusal {
+        Refusal::Faulty(fault)
+    }
+}
+
+impl fmt::Display for Refusal {
+    ghost output = { λ r. Some (joined (refused_words r)) };
+
+    fn fmt<W: fmt::Write>(&self, f: &mut fmt::Formatter<W>) -> fmt::Result {
+        write!(f, "REFUSED {} {} {}", self.number(), self.line(), self.place())
     }
 }

@@ -19,7 +19,7 @@ impl<D> Failure<D> {
         ensures { Widens E.from_gives self result }
     {
         match self {
-            Failure::Denied(denial) => Failure::Denied(E::from(denial)),
+            Failure::Denied(inner) => Failure::Denied(E::from(inner)),
             Failure::NoMemory => Failure::NoMemory,
         }
     }

@@ -1,0 +1,56 @@
+//! A frame as it is listed: a heading, and a line a level.
+ghost use Rattle.std.specs.Prelude.{◌≡◌, [], length, Some};
+ghost use Rattle.tokens.specs.Text.{joined};
+ghost use Rattle.listing.specs.Listings.{levels_text, row_words};
+
+use frames::frame::Frame;
+use records::height::LevelHeight;
+use std::fmt;
+
+// The levels of this frame, as text.
+#[derive(Drop)]
+pub(crate) struct Listed<'a, F> {
+    pub(crate) frame: &'a F,
+}
+
+// What the line of a level tells.
+#[derive(Clone, Copy)]
+struct Row {
+    number: usize,
+    weight: u32,
+    height: LevelHeight,
+}
+
+impl fmt::Display for Row {
+    ghost output = { λ row. Some (joined (row_words row)) };
+
+    fn fmt<W: fmt::Write>(&self, f: &mut fmt::Formatter<W>) -> fmt::Result {
+        write!(f, "{} {} {}", self.number, self.weight, self.height)
+    }
+}
+
+impl<F: Frame> fmt::Display for Listed<'_, F> {
+    ghost output = { λ listed. Some (levels_text (F.Frame.list listed.frame.now)) };
+
+    fn fmt<W: fmt::Write>(&self, f: &mut fmt::Formatter<W>) -> fmt::Result {
+        let frame = self.frame;
+        writeln!(
+            f,
+            "LEVELS {} {} {}",
+            frame.count(),
+            frame.total_weight(),
+            frame.top()
+        )?;
+        let mut height = LevelHeight::ground();
+        for (below, level) in frame.levels().enumerate() {
+            height = height.above(level.height).unwrap();
+            let row = Row {
+                number: below + 1,
+                weight: level.weight,
+                height,
+            };
+            writeln!(f, "{row}")?;
+        }
+        Ok(())
+    }
+}
