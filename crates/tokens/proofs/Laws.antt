@@ -17,14 +17,14 @@ use Rattle.records.specs.declared.card.Walls.{Walls}
 use Rattle.records.specs.declared.card.Walls.TheVariants.{Tied, Detached}
 use Rattle.tokens.specs.Fields.{as_number, as_height, as_load, as_period, as_mark, storey}
 use Rattle.tokens.specs.Marks.{soil_named, group_named, walls_named}
-use Rattle.tokens.specs.Numbers.{Small, number_of}
+use Rattle.tokens.specs.Numbers.{Small, number_of, negated}
 use Rattle.tokens.specs.Said.{Said, section, numeral, minus, mark, told}
 use Rattle.tokens.specs.Written.{height_text, period_text, soil_text, group_text, walls_text}
 use Rattle.tokens.proofs.Cutting.{lacks}
+use Rattle.tokens.proofs.Digits.{within_yes}
 use Rattle.tokens.proofs.Decimals.{own, digit_in, forth, back}
 use Rattle.std.proofs.lemmas.Option.{same_Some}
 use Rattle.tokens.proofs.Options.{none_some, mapped_back, cond_some}
-use Rattle.tokens.proofs.Told.{negated_number}
 use Rattle.tokens.proofs.Words.{Plain, spelled}
 
 -- m reads what text writes, of a value that fits, and nothing else
@@ -122,6 +122,11 @@ load_only (minus (b ∷ bs)) z h =
     let q = mapped_back (λ n. neg_ℤ (pos n)) (number_of (b ∷ bs)) z c.1 in
     subst (λ y. (45 ∷ b ∷ bs ≡ signed_decimal y) × Small (nat_abs y)) (sym q.2) (negative_only (b ∷ bs) q.0 (above_none b bs q.0 c.0 q.1) (back (b ∷ bs) q.0 q.1))
 load_only (mark w) z h = none_some h
+
+-- a minus before a digit 1 to 9
+negated_number : (bs : List ℕ) → 0 < length bs → 49 ≤ get_or bs 0 0 → get_or bs 0 0 ≤ 57 → negated bs ≡ option_map (λ n. neg_ℤ (pos n)) (number_of bs)
+negated_number [] h low high = absurd (omega arith)
+negated_number (b ∷ bs) h low high = cond-true (is_in_range 49 57 b) _ _ (within_yes 49 57 b low high)
 
 load_means : (z : ℤ) → Small (nat_abs z) → as_load (told (signed_decimal z)) ≡ Some z
 load_means (pos n) h = ap as_load (told_decimal n h) ∙ ap (option_map pos) (forth n h)
