@@ -1,10 +1,10 @@
 -- What stands before the first byte c and after it, also where a text is cut short.
-use Rattle.std.proofs.Common.{◌≡◌, ℕ, zero, suc, ◌+◌, ◌-◌, ◌<◌, ◌≤◌, Bool, true, false, cond, not, ◌&&◌, eqb, ltb, List, [], ◌∷◌, ◌++◌, length, take, drop, Some, None, Option, sym, refl, ap, ◌∙◌, subst, ⊎_elim, one-add, arith, length-append, take_all}
+use Rattle.std.proofs.Common.{◌≡◌, ℕ, zero, suc, ◌+◌, ◌-◌, ◌<◌, ◌≤◌, Bool, true, false, cond, not, ◌&&◌, eqb, ltb, List, [], ◌∷◌, ◌++◌, length, take, drop, Some, None, Option, sym, refl, ap, ◌∙◌, subst, one-add, arith, length-append, take_all}
 use lib.Seq.{take-append-le, take-append-add, take-append_seam, drop-append-add}
 use Rattle.std.specs.List.{position}
 use Rattle.std.specs.Option.{option_map}
 use Rattle.std.proofs.lemmas.Bool.Decides.{nat_tests}
-use Rattle.std.proofs.lemmas.Bool.{cases_Bool, cond-true, cond-false, eqb-true, lt-ltb, le-ltb, ltb-true, and_from}
+use Rattle.std.proofs.lemmas.Bool.{cond-true, cond-false, eqb-true, lt-ltb, le-ltb, ltb-true}
 use Rattle.std.proofs.lemmas.List.Sums.{split_at_first, passes_at_first}
 use Rattle.std.proofs.lemmas.Option.{cond_some}
 use Rattle.tokens.specs.Cuts.{ahead, cut_at}
@@ -41,11 +41,11 @@ ahead_here c (x ∷ xs) ys h = grind (arith, nat_tests, ahead_here c xs ys)
 
 ahead_lacks : (c : ℕ) (bs : List ℕ) → lacks c (take (ahead c bs) bs) ≡ true
 ahead_lacks c [] = refl
-ahead_lacks c (b ∷ bs) =
-    ⊎_elim
-    (λ is. subst (λ k. lacks c (take k (b ∷ bs)) ≡ true) (sym (cond-false (not (eqb b c)) _ 0 (ap not is))) refl)
-    (λ isnt. subst (λ k. lacks c (take k (b ∷ bs)) ≡ true) (sym (cond-true (not (eqb b c)) _ 0 (ap not isnt) ∙ one-add _)) (and_from _ _ (ap not isnt) (ahead_lacks c bs)))
-    (cases_Bool (eqb b c))
+ahead_lacks c (b ∷ bs) = cases (eqb b c) refl (ahead_lacks c bs)
+  where
+    cases : (t : Bool) → eqb b c ≡ t → lacks c (take (ahead c bs) bs) ≡ true → lacks c (take (cond (not t) (1 + ahead c bs) 0) (b ∷ bs)) ≡ true
+    cases true e h = refl
+    cases false e h = subst (λ k. lacks c (take k (b ∷ bs)) ≡ true) (sym (one-add _)) (grind (arith, nat_tests))
 
 -- where there is no c
 pub cut_none : (c : ℕ) (xs : List ℕ) → lacks c xs ≡ true → cut_at c xs ≡ None

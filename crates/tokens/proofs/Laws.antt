@@ -1,5 +1,5 @@
 -- Each field is read from what it is written as, and from nothing else.
-use Rattle.std.proofs.Common.{◌≡◌, ℕ, zero, suc, ◌<◌, ◌≤◌, true, cond, leb, List, [], ◌∷◌, length, get_or, ℤ, pos, negsuc, neg_ℤ, nat_abs, Some, None, codes, decimal, Option, sym, refl, ap, ◌∙◌, subst, arith}
+use Rattle.std.proofs.Common.{◌≡◌, ℕ, zero, suc, ◌<◌, ◌≤◌, true, cond, List, [], ◌∷◌, length, get_or, ℤ, pos, negsuc, neg_ℤ, nat_abs, Some, None, codes, decimal, Option, sym, refl, ap, ◌∙◌, subst, arith}
 use Rattle.std.specs.Option.{option_map, option_to_list}
 use Rattle.std.specs.Int.{is_in_range}
 use Rattle.std.specs.Fmt.{signed_decimal}
@@ -8,7 +8,6 @@ use Rattle.std.specs.Str.{all_ascii_digits, bytes_eq}
 use Rattle.std.proofs.lemmas.Fmt.{digits_decimal, decimal_nonempty, decimal_digit, first_decimal, length-decimal-le}
 use Rattle.std.proofs.lemmas.Slice.Eq.{bytes_eq-Decides}
 use Rattle.std.proofs.lemmas.Bool.Decides.{nat_tests}
-use Rattle.std.proofs.lemmas.Bool.{leb-true, and_parts}
 use Rattle.records.specs.declared.card.Soil.{Soil}
 use Rattle.records.specs.declared.card.Soil.TheVariants.{I, II, III}
 use Rattle.records.specs.declared.card.Group.{Group}
@@ -97,11 +96,11 @@ above_none : (b : ℕ) (bs : List ℕ) (n : ℕ) → is_in_range 49 57 b ≡ tru
 above_none b bs zero first h =
     let t : b ∷ bs ≡ 48 ∷ [] = (back (b ∷ bs) 0 h).0 ∙ decimal_digit 0 (omega arith) in
     let e : b ≡ 48 = cc in
-    absurd (let bad : ⊥ = omega (arith, leb-true 49 b (and_parts (leb 49 b) (leb b 57) first).0) in bad)
+    absurd (grind (arith, nat_tests))
 above_none b bs (suc n) first h = omega arith
 
 negative_only : (b : List ℕ) (n : ℕ) → 0 < n → (b ≡ decimal n) × Small n → (45 ∷ b ≡ signed_decimal (neg_ℤ (pos n))) × Small (nat_abs (neg_ℤ (pos n)))
-negative_only b zero more e = absurd (let bad : ⊥ = omega arith in bad)
+negative_only b zero more e = absurd (omega arith)
 negative_only b (suc n) more e = (ap (λ l. 45 ∷ l) e.0, e.1)
 
 load_only : (s : Said) (z : ℤ) → as_load s ≡ Some z → (spelled s ≡ signed_decimal z) × Small (nat_abs z)
