@@ -1,10 +1,9 @@
 -- A number is laid out as `decimal` writes it.
-use Rattle.std.proofs.Common.{◌≡◌, ℕ, ◌+◌, ◌-◌, ◌*◌, ◌^◌, ◌<◌, ◌≤◌, true, List, [], ◌∷◌, length, get_or, Some, decimal, sym, refl, ap, ◌∙◌, ⊎_elim, arith, rules}
+use Rattle.std.proofs.Common.{◌≡◌, ℕ, zero, suc, ◌+◌, ◌-◌, ◌*◌, ◌^◌, ◌<◌, ◌≤◌, true, List, [], ◌∷◌, length, get_or, Some, decimal, sym, refl, ap, ◌∙◌, arith, rules}
 use Rattle.std.specs.Str.{all_ascii_digits}
 use Rattle.std.proofs.lemmas.Str.Parse.{IsNumeralModel, numerals_by_fold, digits_value_short}
 use Rattle.std.proofs.lemmas.Fmt.{digits_decimal, digits_value-decimal, length-decimal-le, decimal_nonempty, first_decimal, decimal-digits_value, decimal_digit}
 use Rattle.std.proofs.lemmas.Bool.Decides.{nat_tests}
-use Rattle.std.proofs.lemmas.Bool.{cases_order}
 use Rattle.std.proofs.lemmas.List.{nil_from_length}
 use Rattle.tokens.specs.Numbers.{onward, number_of}
 use Rattle.tokens.proofs.Options.{none_some}
@@ -29,13 +28,13 @@ numbered [] d some few lone = absurd (omega arith)
 numbered (b ∷ []) d some few lone = grind (arith, nat_tests)
 numbered (b ∷ e ∷ bs) d some few lone = grind (arith, nat_tests, onward_some (b - 48) (e ∷ bs))
 
+lone_zero : (n : ℕ) → n < 10 ^ 9 → get_or (decimal n) 0 0 ≡ 48 → length (decimal n) ≡ 1
+lone_zero zero h first = ap length (decimal_digit 0 (omega arith))
+lone_zero (suc n) h first = absurd (omega (arith, first_decimal (suc n) (omega arith) (omega arith)))
+
 pub forth : (n : ℕ) → n < 10 ^ 9 → number_of (decimal n) ≡ Some n
 forth n h =
-    numbered (decimal n) (digits_decimal own n (omega arith)) (decimal_nonempty n (omega arith)) (length-decimal-le 9 n (omega arith) h (omega arith))
-    (λ zero_first. ⊎_elim
-    (λ e. ap (λ k. length (decimal k)) e ∙ ap length (decimal_digit 0 (omega arith)))
-    (⊎_elim (λ less. absurd (let bad : ⊥ = omega arith in bad)) (λ more. absurd (let bad : ⊥ = omega (arith, first_decimal n more (omega arith)) in bad)))
-    (cases_order n 0))
+    numbered (decimal n) (digits_decimal own n (omega arith)) (decimal_nonempty n (omega arith)) (length-decimal-le 9 n (omega arith) h (omega arith)) (lone_zero n h)
     ∙ ap Some (digits_value-decimal own n (omega arith))
 
 back_digits : (b n : ℕ) (bs : List ℕ) → 49 ≤ b → b ≤ 57 → length bs ≤ 8 → onward (b - 48) bs ≡ Some n → (b ∷ bs ≡ decimal n) × (n < 10 ^ 9)
