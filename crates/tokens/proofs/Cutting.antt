@@ -1,13 +1,13 @@
 -- What stands before the first byte c and after it, also where a text is cut short.
-use Rattle.std.proofs.Common.{◌≡◌, ℕ, zero, suc, ◌+◌, ◌-◌, ◌<◌, ◌≤◌, Bool, true, false, cond, not, ◌&&◌, eqb, ltb, List, [], ◌∷◌, ◌++◌, length, take, drop, Some, None, Option, sym, refl, ap, ◌∙◌, subst, ⊎_elim, one-add, arith, length-append, take_all}
+use Rattle.std.proofs.Common.{◌≡◌, ℕ, zero, suc, ◌+◌, ◌-◌, ◌<◌, ◌≤◌, Bool, true, false, cond, not, ◌&&◌, eqb, ltb, List, [], ◌∷◌, ◌++◌, length, take, drop, Some, None, Option, sym, refl, ap, ◌∙◌, subst, one-add, arith, length-append, take_all}
 use lib.Seq.{take-append-le, take-append-add, take-append_seam, drop-append-add}
 use Rattle.std.specs.List.{position}
 use Rattle.std.specs.Option.{option_map}
-use Rattle.std.proofs.lemmas.Bool.{cases_Bool, cond-true, cond-false, eqb-true, lt-ltb, le-ltb, ltb-true, ltb-false, and_parts, and_from}
-use Rattle.tokens.specs.Cuts.{ahead, cut_at}
+use Rattle.std.proofs.lemmas.Bool.Decides.{nat_tests}
+use Rattle.std.proofs.lemmas.Bool.{cond-true, cond-false, eqb-true, lt-ltb, le-ltb, ltb-true}
 use Rattle.std.proofs.lemmas.List.Sums.{split_at_first, passes_at_first}
 use Rattle.std.proofs.lemmas.Option.{cond_some}
-use Rattle.tokens.proofs.Options.{none_some}
+use Rattle.tokens.specs.Cuts.{ahead, cut_at}
 
 -- cut where `position` finds c, or not at all
 pub cut_at-position : (c : ℕ) (bs : List ℕ) (r : Option ℕ) → r ≡ position (λ b. eqb b c) bs → cut_at c bs ≡ option_map (λ n. (take n bs, drop (n + 1) bs)) r
@@ -24,28 +24,28 @@ lacks c (b ∷ bs) = not (eqb b c) && lacks c bs
 
 pub lacks-++ : (c : ℕ) (xs ys : List ℕ) → lacks c xs ≡ true → lacks c ys ≡ true → lacks c (xs ++ ys) ≡ true
 lacks-++ c [] ys h k = k
-lacks-++ c (x ∷ xs) ys h k = let p = and_parts (not (eqb x c)) (lacks c xs) h in and_from _ _ p.0 (lacks-++ c xs ys p.1 k)
+lacks-++ c (x ∷ xs) ys h k = grind (arith, nat_tests, lacks-++ c xs ys)
 
 take_lacks : (c k : ℕ) (bs : List ℕ) → lacks c bs ≡ true → lacks c (take k bs) ≡ true
 take_lacks c zero bs h = refl
 take_lacks c (suc k) [] h = refl
-take_lacks c (suc k) (b ∷ bs) h = let p = and_parts (not (eqb b c)) (lacks c bs) h in and_from _ _ p.0 (take_lacks c k bs p.1)
+take_lacks c (suc k) (b ∷ bs) h = grind (arith, nat_tests, take_lacks c k bs)
 
 ahead_all : (c : ℕ) (xs : List ℕ) → lacks c xs ≡ true → ahead c xs ≡ length xs
 ahead_all c [] h = refl
-ahead_all c (x ∷ xs) h = let p = and_parts (not (eqb x c)) (lacks c xs) h in cond-true (not (eqb x c)) _ 0 p.0 ∙ one-add _ ∙ ap suc (ahead_all c xs p.1)
+ahead_all c (x ∷ xs) h = grind (arith, nat_tests, ahead_all c xs)
 
 ahead_here : (c : ℕ) (xs ys : List ℕ) → lacks c xs ≡ true → ahead c (xs ++ (c ∷ ys)) ≡ length xs
-ahead_here c [] ys h = cond-false (not (eqb c c)) _ 0 (ap not (let e : eqb c c ≡ true = grind arith in e))
-ahead_here c (x ∷ xs) ys h = let p = and_parts (not (eqb x c)) (lacks c xs) h in cond-true (not (eqb x c)) _ 0 p.0 ∙ one-add _ ∙ ap suc (ahead_here c xs ys p.1)
+ahead_here c [] ys h = grind (arith, nat_tests)
+ahead_here c (x ∷ xs) ys h = grind (arith, nat_tests, ahead_here c xs ys)
 
 ahead_lacks : (c : ℕ) (bs : List ℕ) → lacks c (take (ahead c bs) bs) ≡ true
 ahead_lacks c [] = refl
-ahead_lacks c (b ∷ bs) =
-    ⊎_elim
-    (λ is. subst (λ k. lacks c (take k (b ∷ bs)) ≡ true) (sym (cond-false (not (eqb b c)) _ 0 (ap not is))) refl)
-    (λ isnt. subst (λ k. lacks c (take k (b ∷ bs)) ≡ true) (sym (cond-true (not (eqb b c)) _ 0 (ap not isnt) ∙ one-add _)) (and_from _ _ (ap not isnt) (ahead_lacks c bs)))
-    (cases_Bool (eqb b c))
+ahead_lacks c (b ∷ bs) = cases (eqb b c) refl (ahead_lacks c bs)
+  where
+    cases : (t : Bool) → eqb b c ≡ t → lacks c (take (ahead c bs) bs) ≡ true → lacks c (take (cond (not t) (1 + ahead c bs) 0) (b ∷ bs)) ≡ true
+    cases true e h = refl
+    cases false e h = subst (λ k. lacks c (take k (b ∷ bs)) ≡ true) (sym (one-add _)) (grind (arith, nat_tests))
 
 -- where there is no c
 pub cut_none : (c : ℕ) (xs : List ℕ) → lacks c xs ≡ true → cut_at c xs ≡ None
@@ -77,12 +77,8 @@ cut_lacks c bs p h =
 
 none_lacks : (c : ℕ) (bs : List ℕ) → cut_at c bs ≡ None → lacks c bs ≡ true
 none_lacks c bs h =
-    let over = ltb-false _ _ (test_none (ltb (ahead c bs) (length bs)) _ h) in
+    let over : length bs ≤ ahead c bs = grind (arith, nat_tests) in
     subst (λ t. lacks c t ≡ true) (take_all (ahead c bs) bs over) (ahead_lacks c bs)
-  where
-    test_none : {A : Type 0} (t : Bool) (x : A) → cond t (Some x) None ≡ None → t ≡ false
-    test_none true x e = none_some (sym e)
-    test_none false x e = refl
 
 -- no c in the whole, and none in its front
 pub cut_none_front : (c k : ℕ) (bs : List ℕ) → cut_at c bs ≡ None → cut_at c (take k bs) ≡ None

@@ -1,14 +1,13 @@
 -- Each field is read from what it is written as, and from nothing else.
-use Rattle.std.proofs.Common.{◌≡◌, ℕ, zero, suc, ◌<◌, ◌≤◌, true, cond, not, eqb, leb, List, [], ◌∷◌, length, get_or, ℤ, pos, negsuc, neg_ℤ, nat_abs, Some, None, codes, decimal, Option, sym, refl, ap, ◌∙◌, subst, ⊎_elim, arith}
+use Rattle.std.proofs.Common.{◌≡◌, ℕ, zero, suc, ◌<◌, ◌≤◌, true, cond, List, [], ◌∷◌, length, get_or, ℤ, pos, negsuc, neg_ℤ, nat_abs, Some, None, codes, decimal, Option, sym, refl, ap, ◌∙◌, subst, arith}
 use Rattle.std.specs.Option.{option_map, option_to_list}
 use Rattle.std.specs.Int.{is_in_range}
-use Rattle.std.specs.Char.{is_ascii_digit}
 use Rattle.std.specs.Fmt.{signed_decimal}
 use Rattle.std.specs.List.{AllByRecursion}
 use Rattle.std.specs.Str.{all_ascii_digits, bytes_eq}
 use Rattle.std.proofs.lemmas.Fmt.{digits_decimal, decimal_nonempty, decimal_digit, first_decimal, length-decimal-le}
 use Rattle.std.proofs.lemmas.Slice.Eq.{bytes_eq-Decides}
-use Rattle.std.proofs.lemmas.Bool.{cases_Bool, cond-true, cond-false, ne_eqb, leb-true, and_parts, and_from}
+use Rattle.std.proofs.lemmas.Bool.Decides.{nat_tests}
 use Rattle.records.specs.declared.card.Soil.{Soil}
 use Rattle.records.specs.declared.card.Soil.TheVariants.{I, II, III}
 use Rattle.records.specs.declared.card.Group.{Group}
@@ -17,14 +16,13 @@ use Rattle.records.specs.declared.card.Walls.{Walls}
 use Rattle.records.specs.declared.card.Walls.TheVariants.{Tied, Detached}
 use Rattle.tokens.specs.Fields.{as_number, as_height, as_load, as_period, as_mark, storey}
 use Rattle.tokens.specs.Marks.{soil_named, group_named, walls_named}
-use Rattle.tokens.specs.Numbers.{Small, number_of}
+use Rattle.tokens.specs.Numbers.{Small, number_of, negated}
 use Rattle.tokens.specs.Said.{Said, section, numeral, minus, mark, told}
 use Rattle.tokens.specs.Written.{height_text, period_text, soil_text, group_text, walls_text}
 use Rattle.tokens.proofs.Cutting.{lacks}
-use Rattle.tokens.proofs.Decimals.{own, digit_in, forth, back}
+use Rattle.tokens.proofs.Decimals.{own, forth, back}
 use Rattle.std.proofs.lemmas.Option.{same_Some}
 use Rattle.tokens.proofs.Options.{none_some, mapped_back, cond_some}
-use Rattle.tokens.proofs.Told.{negated_number}
 use Rattle.tokens.proofs.Words.{Plain, spelled}
 
 -- m reads what text writes, of a value that fits, and nothing else
@@ -37,21 +35,15 @@ pub record Laws {X : Type 0} (m : Said → Option X) (text : X → List ℕ) (fi
 
 digits_lack : (c : ℕ) (bs : List ℕ) → c < 48 → all_ascii_digits bs ≡ true → lacks c bs ≡ true
 digits_lack c [] less h = refl
-digits_lack c (b ∷ bs) less h =
-    let p = and_parts (is_ascii_digit b) (all_ascii_digits bs) h in
-    let d = digit_in b p.0 in
-    and_from _ _ (ap not (ne_eqb b c (λ e. omega arith))) (digits_lack c bs less p.1)
+digits_lack c (b ∷ bs) less h = grind (arith, nat_tests, digits_lack c bs)
 
 told_digits : (bs : List ℕ) → 0 < length bs → all_ascii_digits bs ≡ true → told bs ≡ numeral bs
-told_digits [] some h = absurd (let bad : ⊥ = omega arith in bad)
-told_digits (b ∷ bs) some h =
-    let p = and_parts (is_ascii_digit b) (all_ascii_digits bs) h in
-    let d = digit_in b p.0 in
-    cond-false (eqb b 45) _ _ (ne_eqb b 45 (λ e. omega arith)) ∙ cond-true (is_ascii_digit b) _ _ p.0
+told_digits [] some h = absurd (omega arith)
+told_digits (b ∷ bs) some h = grind (arith, nat_tests)
 
 first_most : (bs : List ℕ) → 0 < length bs → all_ascii_digits bs ≡ true → get_or bs 0 0 ≤ 57
-first_most [] some h = absurd (let bad : ⊥ = omega arith in bad)
-first_most (b ∷ bs) some h = (digit_in b (and_parts (is_ascii_digit b) (all_ascii_digits bs) h).0).1
+first_most [] some h = absurd (omega arith)
+first_most (b ∷ bs) some h = grind (arith, nat_tests)
 
 module _ (n : ℕ) (h : Small n) where
   all_digits : all_ascii_digits (decimal n) ≡ true
@@ -104,11 +96,11 @@ above_none : (b : ℕ) (bs : List ℕ) (n : ℕ) → is_in_range 49 57 b ≡ tru
 above_none b bs zero first h =
     let t : b ∷ bs ≡ 48 ∷ [] = (back (b ∷ bs) 0 h).0 ∙ decimal_digit 0 (omega arith) in
     let e : b ≡ 48 = cc in
-    absurd (let bad : ⊥ = omega (arith, leb-true 49 b (and_parts (leb 49 b) (leb b 57) first).0) in bad)
+    absurd (grind (arith, nat_tests))
 above_none b bs (suc n) first h = omega arith
 
 negative_only : (b : List ℕ) (n : ℕ) → 0 < n → (b ≡ decimal n) × Small n → (45 ∷ b ≡ signed_decimal (neg_ℤ (pos n))) × Small (nat_abs (neg_ℤ (pos n)))
-negative_only b zero more e = absurd (let bad : ⊥ = omega arith in bad)
+negative_only b zero more e = absurd (omega arith)
 negative_only b (suc n) more e = (ap (λ l. 45 ∷ l) e.0, e.1)
 
 load_only : (s : Said) (z : ℤ) → as_load s ≡ Some z → (spelled s ≡ signed_decimal z) × Small (nat_abs z)
@@ -122,6 +114,11 @@ load_only (minus (b ∷ bs)) z h =
     let q = mapped_back (λ n. neg_ℤ (pos n)) (number_of (b ∷ bs)) z c.1 in
     subst (λ y. (45 ∷ b ∷ bs ≡ signed_decimal y) × Small (nat_abs y)) (sym q.2) (negative_only (b ∷ bs) q.0 (above_none b bs q.0 c.0 q.1) (back (b ∷ bs) q.0 q.1))
 load_only (mark w) z h = none_some h
+
+-- a minus before a digit 1 to 9
+negated_number : (bs : List ℕ) → 0 < length bs → 49 ≤ get_or bs 0 0 → get_or bs 0 0 ≤ 57 → negated bs ≡ option_map (λ n. neg_ℤ (pos n)) (number_of bs)
+negated_number [] h low high = absurd (omega arith)
+negated_number (b ∷ bs) h low high = grind (arith, nat_tests)
 
 load_means : (z : ℤ) → Small (nat_abs z) → as_load (told (signed_decimal z)) ≡ Some z
 load_means (pos n) h = ap as_load (told_decimal n h) ∙ ap (option_map pos) (forth n h)
@@ -175,11 +172,7 @@ mark_only named text only (mark w) x h = (only w x h, tt)
 
 -- the first of the marks, or a later one
 one_mark : {X : Type 0} (text : X → List ℕ) (w t : List ℕ) (m x : X) (o : Option X) → t ≡ text m → (o ≡ Some x → w ≡ text x) → cond (bytes_eq w t) (Some m) o ≡ Some x → w ≡ text x
-one_mark text w t m x o e later h =
-    ⊎_elim
-    (λ is. (bytes_eq-Decides w t).0 is ∙ e ∙ ap text (same_Some _ _ (sym (cond-true (bytes_eq w t) (Some m) o is) ∙ h)))
-    (λ isnt. later (sym (cond-false (bytes_eq w t) (Some m) o isnt) ∙ h))
-    (cases_Bool (bytes_eq w t))
+one_mark text w t m x o e later h = grind (arith, bytes_eq-Decides w t)
 
 soil_means : (s : Soil) → Any s → as_mark soil_named (told (soil_text s)) ≡ Some s
 soil_means I h = refl

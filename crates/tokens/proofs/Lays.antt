@@ -123,7 +123,7 @@ onto_line [] bs h = none_some (sym h)
 onto_line (w ∷ ws) bs h = same_Some _ _ (h ∙ onto_joined w ws)
 
 pub line_onto : (ws : List (List ℕ)) → 1 ≤ length ws → Some (joined ws) ≡ onto ws None
-line_onto [] h = absurd (let bad : ⊥ = omega arith in bad)
+line_onto [] h = absurd (omega arith)
 line_onto (w ∷ ws) h = sym (onto_joined w ws)
 
 pub joined_ends : (ws : List (List ℕ)) → AllByRecursion Plain ws → lacks 10 (joined ws) ≡ true

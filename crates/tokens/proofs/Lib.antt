@@ -2,7 +2,6 @@ pub mod Options
 pub mod Digits
 pub mod Decimals
 pub mod Cutting
-pub mod Told
 pub mod Words
 pub mod Laws
 pub mod Lays

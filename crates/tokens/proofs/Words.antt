@@ -1,10 +1,9 @@
 -- A word is told from its bytes, and from no others.
-use Rattle.std.proofs.Common.{◌≡◌, ℕ, ◌≤◌, Bool, true, false, cond, eqb, List, [], ◌∷◌, ◌++◌, length, Some, None, Option, sym, refl, ap, ◌∙◌, ⊎_elim, append-nil, rules}
-use Rattle.std.specs.Char.{is_ascii_digit}
+use Rattle.std.proofs.Common.{◌≡◌, ℕ, ◌≤◌, true, List, [], ◌∷◌, ◌++◌, length, Some, None, Option, sym, refl, ap, arith, ◌∙◌, append-nil, rules}
 use Rattle.std.proofs.lemmas.Slice.Eq.{bytes_eq-Decides}
-use Rattle.std.proofs.lemmas.Bool.{cases_Bool, cond-true, cond-false, eqb-true}
+use Rattle.std.proofs.lemmas.Bool.Decides.{nat_tests}
 use Rattle.tokens.specs.Cuts.{cut_at, first_word, later_words}
-use Rattle.tokens.specs.Said.{Said, section, numeral, minus, mark, told, is_section, as_section}
+use Rattle.tokens.specs.Said.{Said, section, numeral, minus, mark, told, as_section}
 use Rattle.tokens.specs.TextLines.{Left, next_word}
 use Rattle.tokens.proofs.Cutting.{lacks, cut_none, cut_here, cut_back}
 use Rattle.std.proofs.lemmas.Option.{same_Some}
@@ -30,16 +29,7 @@ tail (Some bs) = 32 ∷ bs
 
 spelled_told : (w : List ℕ) → spelled (told w) ≡ w
 spelled_told [] = refl
-spelled_told (b ∷ bs) =
-    ⊎_elim
-    (λ is. ap spelled (cond-true (eqb b 45) (minus bs) _ is) ∙ ap (λ c. c ∷ bs) (sym (eqb-true b 45 is)))
-    (λ isnt. ap spelled (cond-false (eqb b 45) (minus bs) _ isnt) ∙ two (is_ascii_digit b) (is_section (b ∷ bs)))
-    (cases_Bool (eqb b 45))
-  where
-    two : (p q : Bool) → spelled (cond p (numeral (b ∷ bs)) (cond q (section (b ∷ bs)) (mark (b ∷ bs)))) ≡ b ∷ bs
-    two true q = refl
-    two false true = refl
-    two false false = refl
+spelled_told (b ∷ bs) = grind (arith, nat_tests)
 
 pub word_forth : (w : List ℕ) (rest : Left) → Plain w → next_word (Some (w ++ tail rest)) ≡ Some (told w, rest)
 word_forth w None h =

@@ -14,6 +14,7 @@ fn more_digits(start: u8, digits: &[u8]) -> Option<u32>
     ensures value { result ≡ onward start digits.now }
     ensures bound { IfSome result (λ n. n < 10 ^ 9) }
 {
+    // A loop: in the closure of a `try_fold` the bound of `value` would not be known.
     let mut value = u32::from(start);
     for digit in digits {
         match digit {
@@ -41,17 +42,15 @@ pub(crate) fn number(bytes: &[u8]) -> Option<u32>
 pub(crate) fn positive(bytes: &[u8]) -> Option<i32>
     ensures { result ≡ option_map pos (number_of bytes.now) }
 {
-    let n = number(bytes)?;
-    Some(n as i32)
+    number(bytes).map(|n| n as i32)
 }
 
 // A load whose minus sign stands before `after`. There is no minus zero.
 pub(crate) fn negative(after: &[u8]) -> Option<i32>
     ensures { result ≡ negated after.now }
 {
-    let [b'1'..=b'9', ..] = after else {
-        return None;
-    };
-    let n = number(after)?;
-    Some(-(n as i32))
+    match after {
+        [b'1'..=b'9', ..] => number(after).map(|n| -(n as i32)),
+        _ => None,
+    }
 }

@@ -92,6 +92,7 @@ fn split_word(rest: &[u8]) -> (&[u8], Option<&[u8]>)
     ensures word { result.0.now ≡ first_word (cut_at 32 rest.now) rest.now }
     ensures after { option_map (λ x. x.now) result.1 ≡ later_words (cut_at 32 rest.now) }
 {
+    // A match, since `map_or` would name the last word's case before the usual one.
     match cut(b' ', rest) {
         Some((word, after)) => (word, Some(after)),
         None => (rest, None),
