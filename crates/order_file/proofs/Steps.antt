@@ -1,11 +1,6 @@
 -- One part of a file after another.
-use Rattle.std.proofs.Common.{◌≡◌, ℕ, Bool, true, false, cond, List, Ok, Err, Option, Result, refl, ap, ◌∙◌, arith}
-use Rattle.records.specs.declared.card.Card.{Card}
-use Rattle.records.specs.declared.kit_numbers.KitNumbers.{KitNumbers}
-use Rattle.records.specs.declared.level.Level.{Level}
-use Rattle.records.specs.declared.line.Line.{Line}
+use Rattle.std.proofs.Common.{◌≡◌, ℕ, Bool, true, false, cond, Ok, Err, Result, refl, ap, arith}
 use Rattle.tokens.specs.declared.fault.Fault.{Fault}
-use Rattle.order_file.specs.File.{kit_section, level_section, load_section, card_section, sections}
 use Rattle.order_file.specs.Sections.{Place, next}
 
 pub err_ok : {A E P : Type 0} {x : A} {e : E} → ◌≡◌ {A = Result A E} (Err e) (Ok x) → P
@@ -35,7 +30,3 @@ and_next (Err e) k y h go = err_ok h
 pub or_next : {A B P : Type 0} (o : Result (A × Place) Fault) (k : A → Place → Result B Fault) (e : Fault) → next o k ≡ Err e → (o ≡ Err e → P) → ((x : A) (q : Place) → o ≡ Ok (x, q) → k x q ≡ Err e → P) → P
 or_next (Ok p) k e h first second = second p.0 p.1 refl h
 or_next (Err d) k e h first second = first (ap Err (err_same h))
-
--- all four sections are read
-pub four : (o p q r s : Place) {kit : Option KitNumbers} {levels : List Level} {loads : List Line} {card : Card} → kit_section o ≡ Ok (kit, p) → level_section kit p ≡ Ok (levels, q) → load_section q ≡ Ok (loads, r) → card_section r ≡ Ok (card, s) → sections o ≡ Ok (record { kit = kit; levels = levels; loads = loads; card = card }, s)
-four o p q r s a b c d = go_on _ a ∙ go_on _ b ∙ go_on _ c ∙ go_on _ d
