@@ -1,10 +1,12 @@
 -- One part of a file after another.
-use Rattle.std.proofs.Common.{◌≡◌, ℕ, Bool, true, false, cond, Ok, Err, Result, refl, ap, arith}
+use Rattle.std.proofs.Common.{◌≡◌, ℕ, Bool, true, false, cond, List, Some, Ok, Err, Option, Result, refl, ap}
+use Rattle.std.specs.Option.{option_map}
+use Rattle.tokens.specs.TextLines.{Left}
 use Rattle.tokens.specs.declared.fault.Fault.{Fault}
-use Rattle.order_file.specs.Sections.{Place, next}
+use Rattle.order_file.specs.Sections.{Place, next, numbered_line, to_the_end, laid_out}
 
 pub err_ok : {A E P : Type 0} {x : A} {e : E} → ◌≡◌ {A = Result A E} (Err e) (Ok x) → P
-err_ok {x = x} {e = e} h = let z : ◌≡◌ {A = ℕ} 0 1 = cc in absurd (let bad : ⊥ = omega arith in bad)
+err_ok {x = x} {e = e} h = cc
 
 pub ok_same : {A E : Type 0} {x y : A} → ◌≡◌ {A = Result A E} (Ok x) (Ok y) → x ≡ y
 ok_same {x = x} {y = y} h = cc
@@ -30,3 +32,11 @@ and_next (Err e) k y h go = err_ok h
 pub or_next : {A B P : Type 0} (o : Result (A × Place) Fault) (k : A → Place → Result B Fault) (e : Fault) → next o k ≡ Err e → (o ≡ Err e → P) → ((x : A) (q : Place) → o ≡ Ok (x, q) → k x q ≡ Err e → P) → P
 or_next (Ok p) k e h first second = second p.0 p.1 refl h
 or_next (Err d) k e h first second = first (ap Err (err_same h))
+
+-- a line is cut there, and judged
+abbrev pub by_line : {A : Type 0} → (Left → Place → Result (A × Place) Fault) → ℕ → Option (List ℕ × List ℕ) → Result (A × Place) Fault
+by_line k n o = next (numbered_line n (option_map (λ c. (Some c.0, c.1)) o)) k
+
+-- it is a record
+abbrev pub cut_line : {A : Type 0} → (Left → Option (A × Left)) → ℕ → Option (List ℕ × List ℕ) → Result (A × Place) Fault
+cut_line f n o = by_line (λ ws q. laid_out n q (to_the_end (f ws))) n o
