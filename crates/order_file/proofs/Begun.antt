@@ -1,6 +1,6 @@
 -- Some accepted file has the same lines before the faulty one: what was read so far, and then anything.
 use Rattle.std.proofs.Common.{◌≡◌, ℕ, zero, suc, ◌+◌, ◌-◌, ◌≤◌, Bool, true, false, cond, ◌&&◌, eqb, leb, ◌⊎◌, List, [], ◌∷◌, length, pos, Some, None, Ok, Err, codes, Option, Result, sym, refl, ap, ◌∙◌, subst, inl, inr, suc-add, zero-add, arith}
-use Rattle.std.specs.Option.{option_map, option_to_list}
+use Rattle.std.specs.Option.{option_to_list}
 use Rattle.std.specs.List.{AllByRecursion}
 use Rattle.std.proofs.lemmas.Bool.{cases_Bool, cond-true, cond-false, eqb-false}
 use Rattle.records.specs.declared.card.Card.{Card}
@@ -18,16 +18,16 @@ use Rattle.tokens.specs.TextLines.{Left, heading_of}
 use Rattle.tokens.specs.declared.fault.Fault.{Fault}
 use Rattle.tokens.specs.declared.fault.Fault.TheVariants.{Count}
 use Rattle.tokens.proofs.Cutting.{lacks, cut_here}
-use Rattle.tokens.proofs.Lays.{Lays, Names, joined_ends}
+use Rattle.tokens.proofs.Lays.{Lays, Names}
 use Rattle.order_file.specs.File.{Filed, kit_section, level_section, load_section, card_section, most_levels, sections, and_no_more, order_file_of}
 use Rattle.order_file.specs.First.{Shares}
 use Rattle.order_file.specs.Limits.{KitShort, LevelShort, LoadShort, CardShort, Fits}
 use Rattle.order_file.specs.Records.{read_kit, read_card}
 use Rattle.order_file.specs.Render.{kit_words, level_words, card_words, count_words, lines_of, section_text, render}
-use Rattle.order_file.specs.Sections.{Place, next, numbered_line, to_the_end, laid_out, record_line, record_lines, count_line, section_of_up_to}
+use Rattle.order_file.specs.Sections.{Place, next, to_the_end, laid_out, record_line, record_lines, count_line, section_of_up_to}
 use Rattle.order_file.proofs.Layouts.{kit_lays, level_lays, load_lays, card_lays}
-use Rattle.order_file.proofs.Parses.{line_parses, lines_parse, count_parses, count_ends, section_parses}
-use Rattle.order_file.proofs.Steps.{err_ok, ok_same, err_same, cond_ok, and_next, or_next}
+use Rattle.order_file.proofs.Parses.{ends, line_parses, lines_parse, count_parses, count_ends, section_parses}
+use Rattle.order_file.proofs.Steps.{err_ok, ok_same, err_same, cond_ok, and_next, or_next, cut_line}
 use Rattle.order_file.proofs.Whole.{kit_name, levels_name, loads_name, card_name, kit_parses, sections_parse, to_fits, one_kit, most_few}
 
 -- one more line is shared
@@ -44,7 +44,7 @@ module _ {A : Type 0} (f : Left → Option (A × Left)) (p : Place) where
       laid q None k = ap fault_line (sym (err_same k))
       laid q (Some x) k = err_ok (sym k)
 
-      cases : (o : Option (List ℕ × List ℕ)) → next {B = A × Place} (numbered_line p.1 (option_map (λ c. (Some c.0, c.1)) o)) (λ ws q. laid_out p.1 q (to_the_end (f ws))) ≡ Err e → fault_line e ≡ p.1
+      cases : (o : Option (List ℕ × List ℕ)) → cut_line f p.1 o ≡ Err e → fault_line e ≡ p.1
       cases None k = ap fault_line (sym (err_same k))
       cases (Some c) k = laid (c.1, p.1 + 1) (to_the_end (f (Some c.0))) k
 
@@ -55,7 +55,7 @@ module _ {A : Type 0} (f : Left → Option (A × Left)) (p : Place) where
       laid r None k = err_ok k
       laid r (Some y) k = ap (λ t. t.1.1) (sym (ok_same k))
 
-      cases : (o : Option (List ℕ × List ℕ)) → next {B = A × Place} (numbered_line p.1 (option_map (λ c. (Some c.0, c.1)) o)) (λ ws q. laid_out p.1 q (to_the_end (f ws))) ≡ Ok (x, q) → q.1 ≡ p.1 + 1
+      cases : (o : Option (List ℕ × List ℕ)) → cut_line f p.1 o ≡ Ok (x, q) → q.1 ≡ p.1 + 1
       cases None k = err_ok k
       cases (Some c) k = laid (c.1, p.1 + 1) (to_the_end (f (Some c.0))) k
 
@@ -81,9 +81,6 @@ same_shares {i = i} {a = a} c e d h = subst (λ n. Shares n a c) e (subst (λ t.
 -- records, and a section of them
 
 module _ {A : Type 0} {f : Left → Option (A × Left)} {words : A → List (List ℕ)} {fits : A → Type 0} (lays : Lays f words fits) (some : (x : A) → 1 ≤ length (words x)) where
-  ends : (x : A) → fits x → lacks 10 (joined (words x)) ≡ true
-  ends x h = joined_ends (words x) (lays.plain x h)
-
   lines_on : (n : ℕ) (p : Place) (xs : List A) (q : Place) → record_lines f n p ≡ Ok (xs, q) → q.1 ≡ p.1 + n
   lines_on zero p xs q h = omega (arith, ap (λ t. t.1.1) (ok_same h))
   lines_on (suc n) p xs q h =
@@ -95,7 +92,7 @@ module _ {A : Type 0} {f : Left → Option (A × Left)} {words : A → List (Lis
   past_lines [] k r s h shared = subst (λ i. Shares i r s) (sym (zero-add k)) shared
   past_lines (x ∷ xs) k r s h shared =
       subst (λ i. Shares i (lines_of words (x ∷ xs) r) (lines_of words (x ∷ xs) s)) (sym (suc-add (length xs) k))
-      (shares_line (words x) (length xs + k) (lines_of words xs r) (lines_of words xs s) (ends x h.0) (past_lines xs k r s h.1 shared))
+      (shares_line (words x) (length xs + k) (lines_of words xs r) (lines_of words xs s) (ends lays x h.0) (past_lines xs k r s h.1 shared))
 
   past_section : {name : List ℕ} → Names name → (xs : List A) (k : ℕ) (r s : List ℕ) → length xs ≤ 64 → AllByRecursion fits xs → Shares k r s → Shares (suc (length xs + k)) (section_text name words xs r) (section_text name words xs s)
   past_section {name = name} names xs k r s few h shared =
@@ -137,7 +134,7 @@ module _ {A : Type 0} {f : Left → Option (A × Left)} {words : A → List (Lis
               ap suc r.2,
               (b.2, r.3),
               λ after. same_shares _ (let z : suc (fault_line e - q.1) ≡ fault_line e - p.1 = omega arith in z) b.1
-                  (shares_line (words x) (fault_line e - q.1) q.0 (lines_of words r.0 after) (ends x b.2) (r.4 after)),
+                  (shares_line (words x) (fault_line e - q.1) q.0 (lines_of words r.0 after) (ends lays x b.2) (r.4 after)),
             )
 
     section_begun : {name : List ℕ} → Names name → (most : ℕ) → most ≤ 64 → (p : Place) (e : Fault) → section_of_up_to most f name p ≡ Err e → (xs : List A) × (p.1 ≤ fault_line e) × (length xs ≤ most) × AllByRecursion fits xs × ((after : List ℕ) → Shares (fault_line e - p.1) p.0 (section_text name words xs after))
@@ -294,14 +291,14 @@ file_begun bs e h = or_next (sections (bs, 1)) and_no_more e h in_sections after
         let on1 = kit_on (bs, 1) kit p good1 in
         or_next (level_section kit p) _ e h2
         (λ bad.
-        let b = section_begun level_lays (λ x. omega arith) no_level no_level_fits levels_name (most_levels kit) (most_few kit) p e bad in
+        let b = section_begun level_lays (λ x. omega arith) no_level no_level_fits levels_name (most_levels kit) (omega (arith, most_few kit)) p e bad in
         let low = b.1 in (
           record { kit = kit; levels = b.0; loads = []; card = no_card },
           record { kit = a1.2.1; levels = b.3; level_count = b.2; loads = tt; load_count = omega arith; card = no_card_fits },
           same_shares _ (let z : suc (length (option_to_list kit) + (fault_line e - p.1)) ≡ fault_line e - 1 = omega arith in z) a1.1 (past_kit kit (fault_line e - p.1) p.0 _ a1.2.1 (b.4 _)),
         ))
         (λ levels q good2 h3.
-        let a2 = (section_parses level_lays (λ x. omega arith) levels_name (most_levels kit) (most_few kit)).back p levels q good2 in
+        let a2 = (section_parses level_lays (λ x. omega arith) levels_name (most_levels kit) (omega (arith, most_few kit))).back p levels q good2 in
         let on2 = section_on level_lays (λ x. omega arith) levels_name (most_levels kit) p levels q good2 in
         let few2 : length levels ≤ 64 = omega (arith, a2.2.0.1, most_few kit) in
         or_next (load_section q) _ e h3

@@ -15,7 +15,7 @@ use Rattle.order_file.specs.Limits.{Fits}
 use Rattle.order_file.specs.Records.{read_kit, read_level, read_load, read_card}
 use Rattle.order_file.specs.Render.{render}
 use Rattle.order_file.specs.Sections.{Place, next, numbered_line, to_the_end, laid_out, record_line, record_lines, count_line, section_of_up_to}
-use Rattle.order_file.proofs.Steps.{err_ok, err_same}
+use Rattle.order_file.proofs.Steps.{err_ok, err_same, by_line}
 use Rattle.order_file.proofs.Whole.{file_forth}
 
 -- what is read from line m on, in two files that share j lines from there
@@ -38,8 +38,8 @@ both {B = Y} j m (Ok (x, (r, n))) d c h go =
     (cases_lt (m + j) n)
   where
     alone : (p : Result (Y × Place) Fault) → Same 0 n p (c x (r, n)) → m + j < n → Same j m p (next d c)
-    alone (Err e) g out = (omega (arith, g.0), λ lt. absurd (let no : ⊥ = omega (arith, g.0) in no))
-    alone (Ok p) g out = (omega (arith, g.0), λ le. absurd (let no : ⊥ = omega (arith, g.0) in no))
+    alone (Err e) g out = (omega (arith, g.0), λ lt. absurd (omega (arith, g.0)))
+    alone (Ok p) g out = (omega (arith, g.0), λ le. absurd (omega (arith, g.0)))
 
     onward : (p q : Result (Y × Place) Fault) → n ≤ m + j → Same (m + j - n) n p q → Same j m p q
     onward (Err e) q le g = (omega (arith, g.0, h.0), λ lt. g.1 (omega arith))
@@ -54,9 +54,6 @@ none_alike x = record { at = λ j m a b h. (omega arith, λ le. (b, refl, subst 
 
 -- one line is taken, and judged by itself
 
-abbrev by_line : {A : Type 0} → (Left → Place → Result (A × Place) Fault) → ℕ → Option (List ℕ × List ℕ) → Result (A × Place) Fault
-by_line k m o = next (numbered_line m (option_map (λ c. (Some c.0, c.1)) o)) k
-
 abbrev Judged : {A : Type 0} → ℕ → (Place → Result (A × Place) Fault) → Type 0
 Judged {A} m k = ((e : Fault) × (fault_line e ≡ m) × ((q : Place) → k q ≡ Err e)) ⊎ ((x : A) × ((q : Place) → k q ≡ Ok (x, q)))
 
@@ -64,11 +61,11 @@ line_alike : {A : Type 0} (k : ℕ → Left → Place → Result (A × Place) Fa
 line_alike {A = X} k judge zero m a b h = cases (cut_at 10 a)
   where
     cases : (o : Option (List ℕ × List ℕ)) → Same {A = X} zero m (by_line (k m) m o) (by_line (k m) m (cut_at 10 b))
-    cases None = (omega arith, λ lt. absurd (let bad : ⊥ = omega arith in bad))
+    cases None = (omega arith, λ lt. absurd (omega arith))
     cases (Some p) =
         ⊎_elim
-        (λ bad. subst (λ t. Same {A = X} zero m t (by_line (k m) m (cut_at 10 b))) (sym (bad.2 (p.1, m + 1))) (omega (arith, bad.1), λ lt. absurd (let no : ⊥ = omega (arith, bad.1) in no)))
-        (λ good. subst (λ t. Same {A = X} zero m t (by_line (k m) m (cut_at 10 b))) (sym (good.1 (p.1, m + 1))) (omega arith, λ le. absurd (let no : ⊥ = omega arith in no)))
+        (λ bad. subst (λ t. Same {A = X} zero m t (by_line (k m) m (cut_at 10 b))) (sym (bad.2 (p.1, m + 1))) (omega (arith, bad.1), λ lt. absurd (omega (arith, bad.1))))
+        (λ good. subst (λ t. Same {A = X} zero m t (by_line (k m) m (cut_at 10 b))) (sym (good.1 (p.1, m + 1))) (omega arith, λ le. absurd (omega arith)))
         (judge m (Some p.0))
 line_alike {A = X} k judge (suc j) m a b (l, r, s, ea, eb, h) =
     subst (λ t. Same {A = X} (suc j) m t (by_line (k m) m (cut_at 10 b))) (ap (by_line (k m) m) (sym ea))

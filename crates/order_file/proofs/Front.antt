@@ -1,6 +1,5 @@
 -- A file is read alike from its first bytes, since what is accepted is short.
 use Rattle.std.proofs.Common.{◌≡◌, ℕ, zero, suc, ◌+◌, ◌-◌, ◌*◌, ◌<◌, ◌≤◌, Bool, true, false, cond, ◌&&◌, eqb, leb, List, [], ◌∷◌, length, take, Some, None, Ok, Err, Option, Result, sym, refl, ap, ◌∙◌, subst, ⊎_elim, suc-mul, arith}
-use Rattle.std.specs.Option.{option_map}
 use Rattle.std.proofs.lemmas.Bool.{cases_lt}
 use Rattle.records.specs.declared.kit_numbers.KitNumbers.{KitNumbers}
 use Rattle.tokens.specs.Cuts.{cut_at}
@@ -12,10 +11,11 @@ use Rattle.tokens.proofs.Lays.{Lays, Names, heading, onto_line, joined_short}
 use Rattle.tokens.proofs.Options.{none_some}
 use Rattle.order_file.specs.File.{Filed, most_levels, sections, and_no_more, order_file_of}
 use Rattle.order_file.specs.Records.{read_kit}
-use Rattle.order_file.specs.Sections.{Place, next, numbered_line, to_the_end, laid_out, record_line, record_lines, count_line, section_of_up_to}
+use Rattle.order_file.specs.Sections.{Place, next, to_the_end, laid_out, record_line, record_lines, count_line, section_of_up_to}
 use Rattle.order_file.proofs.Layouts.{kit_lays, level_lays, load_lays, card_lays}
 use Rattle.order_file.proofs.Parses.{count_parses}
-use Rattle.order_file.proofs.Whole.{kit_name, levels_name, loads_name, card_name}
+use Rattle.order_file.proofs.Steps.{cut_line}
+use Rattle.order_file.proofs.Whole.{kit_name, levels_name, loads_name, card_name, most_few}
 
 -- a part that takes at most b bytes, read from the first k
 abbrev Kept : {A : Type 0} → ℕ → ℕ → Result (A × Place) Fault → Result (A × Place) Fault → Type 0
@@ -64,11 +64,7 @@ laid_alike k b n m l r (Some x) short less = (k - (length l + 1), refl, omega (a
 
 laid_late : {A : Type 0} (k b n m : ℕ) (l r : List ℕ) (o : Option A) → ((x : A) → o ≡ Some x → length l ≤ b) → b + 1 ≤ k → k ≤ length l → Kept {A = A} k (b + 1) (laid_out n (r, m) o) (Err (Layout n))
 laid_late k b n m l r None short le late = refl
-laid_late k b n m l r (Some x) short le late = absurd (let bad : ⊥ = omega (arith, short x refl) in bad)
-
--- a line, by where it is cut
-abbrev cut_line : {A : Type 0} → (Left → Option (A × Left)) → ℕ → Option (List ℕ × List ℕ) → Result (A × Place) Fault
-cut_line f n o = next (numbered_line n (option_map (λ c. (Some c.0, c.1)) o)) (λ ws q. laid_out n q (to_the_end (f ws)))
+laid_late k b n m l r (Some x) short le late = absurd (omega (arith, short x refl))
 
 short_local : {A : Type 0} (b : ℕ) (f : Left → Option (A × Left)) → Short b f → Local (b + 1) (record_line f)
 short_local {A = X} b f short = record { at = λ k bs n le. cases k bs n le (cut_at 10 bs) refl }
@@ -126,10 +122,6 @@ kit_or_none : (t : Bool) → Local 89 (λ q. cond t (Ok (None, q)) (next {B = Op
 kit_or_none true = wider 89 (omega arith) (none_local None)
 kit_or_none false = and_local (record_local kit_lays 8 (λ x. refl)) (λ k. none_local (Some k))
 
-most_few : (o : Option KitNumbers) → most_levels o ≤ 24
-most_few None = omega arith
-most_few (Some k) = omega arith
-
 -- 3,394 bytes hold any file that is accepted
 sections_local : Local 3394 sections
 sections_local =
@@ -144,7 +136,7 @@ then_no_more k b (Err e) d less h = ap (λ t. next t and_no_more) (sym h)
 then_no_more k b (Ok (f, (r, n))) d less h = rest r h.0 (omega (arith, h.2)) ∙ ap (λ t. next t and_no_more) (sym h.1)
   where
     rest : (s : List ℕ) (j : ℕ) → 1 ≤ j → and_no_more f (s, n) ≡ and_no_more f (take j s, n)
-    rest s zero some = absurd (let bad : ⊥ = omega arith in bad)
+    rest s zero some = absurd (omega arith)
     rest [] (suc j) some = refl
     rest (c ∷ cs) (suc j) some = refl
 

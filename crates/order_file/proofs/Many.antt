@@ -1,6 +1,5 @@
 -- Records read one after another: what holds while some are read and some are not.
-use Rattle.std.proofs.Common.{◌≡◌, ℕ, suc, ◌+◌, ◌-◌, ◌<◌, ◌≤◌, List, [], ◌∷◌, ◌++◌, Ok, Err, Option, Result, sym, refl, ap, ◌∙◌, append_assoc, append-nil, arith}
-use native.Mathlib.Nat.{sub-zero}
+use Rattle.std.proofs.Common.{◌≡◌, ℕ, suc, ◌+◌, ◌-◌, ◌<◌, List, [], ◌∷◌, ◌++◌, Ok, Err, Option, Result, sym, refl, ap, ◌∙◌, append_assoc, arith}
 use Rattle.tokens.specs.TextLines.{Left}
 use Rattle.tokens.specs.declared.fault.Fault.{Fault}
 use Rattle.order_file.specs.Sections.{Place, next, record_line, record_lines}
@@ -14,16 +13,9 @@ after xs (Ok p) = Ok (xs ++ p.0, p.1)
 pub record Going {A : Type 0} (f : Left → Option (A × Left)) (n : ℕ) (from : Place) (i : ℕ) (xs : List A) (p : Place) : Type 0 where
   pub left : record_lines f n from ≡ after xs (record_lines f (n - i) p)
 
-after_none : {A : Type 0} (o : Result (List A × Place) Fault) → o ≡ after [] o
-after_none (Err e) = refl
-after_none (Ok p) = refl
-
 after_one : {A : Type 0} (xs : List A) (x : A) (o : Result (List A × Place) Fault) → after xs (next o (λ ys r. Ok (x ∷ ys, r))) ≡ after (xs ++ (x ∷ [])) o
 after_one xs x (Err e) = refl
 after_one xs x (Ok p) = ap (λ l. Ok (l, p.1)) (sym (append_assoc xs (x ∷ []) p.0))
-
-pub begun : {A : Type 0} (f : Left → Option (A × Left)) (n : ℕ) (from : Place) → Going f n from 0 [] from
-begun f n from = record { left = after_none _ ∙ ap (λ k. after [] (record_lines f k from)) (sym (sub-zero n)) }
 
 module _ {A : Type 0} {f : Left → Option (A × Left)} {n : ℕ} {from : Place} {i : ℕ} {xs : List A} {p : Place} (h : Going f n from i xs p) where
   at : (k : ℕ) → n - i ≡ k → record_lines f n from ≡ after xs (record_lines f k p)
@@ -39,6 +31,3 @@ module _ {A : Type 0} {f : Left → Option (A × Left)} {n : ℕ} {from : Place}
         ∙ ap (λ o. after xs (next o (λ y s. next (record_lines f (n - (i + 1)) s) (λ ys r. Ok (y ∷ ys, r))))) good
         ∙ after_one xs x (record_lines f (n - (i + 1)) q);
   }
-
-  pub all : n ≤ i → record_lines f n from ≡ Ok (xs, p)
-  all none_left = at 0 (omega arith) ∙ ap (λ l. Ok (l, p)) (append-nil xs)

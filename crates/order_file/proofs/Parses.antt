@@ -12,7 +12,7 @@ use Rattle.tokens.proofs.Cutting.{lacks, cut_here, cut_back}
 use Rattle.tokens.proofs.Lays.{Lays, Names, heading, onto_line, line_onto, joined_ends}
 use Rattle.order_file.specs.Render.{count_words, lines_of, section_text}
 use Rattle.order_file.specs.Sections.{Place, next, numbered_line, next_line, to_the_end, laid_out, record_line, record_lines, count_line, section_of_up_to}
-use Rattle.order_file.proofs.Steps.{err_ok, ok_same, cond_ok, go_on, and_next}
+use Rattle.order_file.proofs.Steps.{err_ok, ok_same, cond_ok, go_on, and_next, cut_line}
 
 -- the step reads the text of a value that fits and is picked, and nothing else
 pub record ParsesPicked {A : Type 0} (picks : A → Type 0) (step : Place → Result (A × Place) Fault) (text : A → List ℕ → List ℕ) (fits : A → Type 0) : Type 0 where
@@ -74,6 +74,10 @@ module _ {A : Type 0} {f : Left → Option (A × Left)} {words : A → List (Lis
       cases (Some (y, None)) k = let s = ok_same k in (ap (λ t. Some (t.0, None)) s, ap (λ t. t.1) s)
       cases (Some (y, Some vs)) k = err_ok k
 
+  -- no byte 10 stands in the line
+  pub ends : (x : A) → fits x → lacks 10 (joined (words x)) ≡ true
+  ends x h = joined_ends (words x) (lays.plain x h)
+
   pub line_parses : ((x : A) → 1 ≤ length (words x)) → Parses (record_line f) (λ x. line_of (words x)) fits
   line_parses some = record {
     back = λ p x q h.
@@ -87,7 +91,7 @@ module _ {A : Type 0} {f : Left → Option (A × Left)} {words : A → List (Lis
         ));
     forth = λ x after n p h. (
       n + 1,
-      ap (λ o. next {B = A × Place} (numbered_line n (option_map (λ c. (Some c.0, c.1)) o)) (λ ws q. laid_out n q (to_the_end (f ws)))) (cut_here 10 (joined (words x)) after (joined_ends (words x) (lays.plain x h)))
+      ap (cut_line f n) (cut_here 10 (joined (words x)) after (ends x h))
           ∙ ap (λ o. laid_out n (after, n + 1) (to_the_end o)) (ap f (line_onto (words x) (some x)) ∙ lays.forth x None tt h),
     );
   }

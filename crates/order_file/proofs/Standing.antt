@@ -5,13 +5,13 @@ use Rattle.std.specs.List.{AllByRecursion}
 use Rattle.tokens.specs.Text.{joined, line_of}
 use Rattle.tokens.specs.TextLines.{Left, then}
 use Rattle.tokens.proofs.Cutting.{lacks, cut_here}
-use Rattle.tokens.proofs.Lays.{Lays, Names, joined_ends}
+use Rattle.tokens.proofs.Lays.{Lays, Names}
 use Rattle.order_file.specs.File.{Filed}
 use Rattle.order_file.specs.Limits.{Fits}
 use Rattle.order_file.specs.Lines.{line_after, line_at, kits, level_line, load_line, card_line, LinedUp}
 use Rattle.order_file.specs.Render.{count_words, lines_of, section_text, kit_words, level_words, load_words, card_words, render}
 use Rattle.order_file.proofs.Layouts.{kit_lays, level_lays, load_lays, card_lays}
-use Rattle.order_file.proofs.Parses.{count_ends}
+use Rattle.order_file.proofs.Parses.{ends, count_ends}
 use Rattle.order_file.proofs.Whole.{kit_name, levels_name, loads_name, card_name, one_kit, most_few}
 
 here : (ws : List (List ℕ)) (after : List ℕ) → lacks 10 (joined ws) ≡ true → line_after 0 (line_of ws after) ≡ Some (joined ws)
@@ -22,20 +22,17 @@ past ws after n h = ap (λ o. then o (λ p. line_after n p.1)) (cut_here 10 (joi
 
 -- a section's lines, and the lines after it
 module _ {A : Type 0} {f : Left → Option (A × Left)} {words : A → List (List ℕ)} {fits : A → Type 0} (lays : Lays f words fits) {name : List ℕ} (names : Names name) where
-  ends : (x : A) → fits x → lacks 10 (joined (words x)) ≡ true
-  ends x h = joined_ends (words x) (lays.plain x h)
-
   past_all : (xs : List A) (after : List ℕ) (n : ℕ) → AllByRecursion fits xs → line_after (length xs + n) (lines_of words xs after) ≡ line_after n after
   past_all [] after n h = ap (λ k. line_after k after) (zero-add n)
   past_all (x ∷ xs) after n h =
       ap (λ k. line_after k (lines_of words (x ∷ xs) after)) (suc-add (length xs) n)
-      ∙ past (words x) (lines_of words xs after) (length xs + n) (ends x h.0)
+      ∙ past (words x) (lines_of words xs after) (length xs + n) (ends lays x h.0)
       ∙ past_all xs after n h.1
 
   among : (xs : List A) (after : List ℕ) (i : ℕ) (d : A) → i < length xs → AllByRecursion fits xs → line_after i (lines_of words xs after) ≡ Some (joined (words (get_or xs i d)))
-  among [] after i d less h = absurd (let bad : ⊥ = omega arith in bad)
-  among (x ∷ xs) after zero d less h = here (words x) (lines_of words xs after) (ends x h.0)
-  among (x ∷ xs) after (suc i) d less h = past (words x) (lines_of words xs after) i (ends x h.0) ∙ among xs after i d (omega arith) h.1
+  among [] after i d less h = absurd (omega arith)
+  among (x ∷ xs) after zero d less h = here (words x) (lines_of words xs after) (ends lays x h.0)
+  among (x ∷ xs) after (suc i) d less h = past (words x) (lines_of words xs after) i (ends lays x h.0) ∙ among xs after i d (omega arith) h.1
 
   past_section : (xs : List A) (after : List ℕ) (n : ℕ) → length xs ≤ 64 → AllByRecursion fits xs → line_after (suc (length xs + n)) (section_text name words xs after) ≡ line_after n after
   past_section xs after n few h =

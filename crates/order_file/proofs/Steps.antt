@@ -1,15 +1,12 @@
 -- One part of a file after another.
-use Rattle.std.proofs.Common.{◌≡◌, ℕ, Bool, true, false, cond, List, Ok, Err, Option, Result, refl, ap, ◌∙◌, arith}
-use Rattle.records.specs.declared.card.Card.{Card}
-use Rattle.records.specs.declared.kit_numbers.KitNumbers.{KitNumbers}
-use Rattle.records.specs.declared.level.Level.{Level}
-use Rattle.records.specs.declared.line.Line.{Line}
+use Rattle.std.proofs.Common.{◌≡◌, ℕ, Bool, true, false, cond, List, Some, Ok, Err, Option, Result, refl, ap}
+use Rattle.std.specs.Option.{option_map}
+use Rattle.tokens.specs.TextLines.{Left}
 use Rattle.tokens.specs.declared.fault.Fault.{Fault}
-use Rattle.order_file.specs.File.{kit_section, level_section, load_section, card_section, sections}
-use Rattle.order_file.specs.Sections.{Place, next}
+use Rattle.order_file.specs.Sections.{Place, next, numbered_line, to_the_end, laid_out}
 
 pub err_ok : {A E P : Type 0} {x : A} {e : E} → ◌≡◌ {A = Result A E} (Err e) (Ok x) → P
-err_ok {x = x} {e = e} h = let z : ◌≡◌ {A = ℕ} 0 1 = cc in absurd (let bad : ⊥ = omega arith in bad)
+err_ok {x = x} {e = e} h = cc
 
 pub ok_same : {A E : Type 0} {x y : A} → ◌≡◌ {A = Result A E} (Ok x) (Ok y) → x ≡ y
 ok_same {x = x} {y = y} h = cc
@@ -36,6 +33,10 @@ pub or_next : {A B P : Type 0} (o : Result (A × Place) Fault) (k : A → Place 
 or_next (Ok p) k e h first second = second p.0 p.1 refl h
 or_next (Err d) k e h first second = first (ap Err (err_same h))
 
--- all four sections are read
-pub four : (o p q r s : Place) {kit : Option KitNumbers} {levels : List Level} {loads : List Line} {card : Card} → kit_section o ≡ Ok (kit, p) → level_section kit p ≡ Ok (levels, q) → load_section q ≡ Ok (loads, r) → card_section r ≡ Ok (card, s) → sections o ≡ Ok (record { kit = kit; levels = levels; loads = loads; card = card }, s)
-four o p q r s a b c d = go_on _ a ∙ go_on _ b ∙ go_on _ c ∙ go_on _ d
+-- a line is cut there, and judged
+abbrev pub by_line : {A : Type 0} → (Left → Place → Result (A × Place) Fault) → ℕ → Option (List ℕ × List ℕ) → Result (A × Place) Fault
+by_line k n o = next (numbered_line n (option_map (λ c. (Some c.0, c.1)) o)) k
+
+-- it is a record
+abbrev pub cut_line : {A : Type 0} → (Left → Option (A × Left)) → ℕ → Option (List ℕ × List ℕ) → Result (A × Place) Fault
+cut_line f n o = by_line (λ ws q. laid_out n q (to_the_end (f ws))) n o

@@ -38,7 +38,7 @@ kit_counted zero h = record {
   where
     none : (k : Option KitNumbers) (after : List ℕ) (n : ℕ) → Unit {0} × (length (option_to_list k) ≡ 0) → AllByRecursion KitShort (option_to_list k) → (m : ℕ) × (kit_or_none 0 (lines_of kit_words (option_to_list k) after, n) ≡ Ok (k, (after, m)))
     none None after n p f = (n, refl)
-    none (Some k) after n p f = absurd (let bad : ⊥ = omega (arith, p.1) in bad)
+    none (Some k) after n p f = absurd (omega (arith, p.1))
 kit_counted (suc zero) h = record {
   back = λ p k q e.
       and_next (record_line read_kit p) _ _ e (λ x r d i.
@@ -51,9 +51,9 @@ kit_counted (suc zero) h = record {
     kit_line = line_parses kit_lays (λ x. omega arith)
 
     some : (k : Option KitNumbers) (after : List ℕ) (n : ℕ) → Unit {0} × (length (option_to_list k) ≡ 1) → AllByRecursion KitShort (option_to_list k) → (m : ℕ) × (kit_or_none 1 (lines_of kit_words (option_to_list k) after, n) ≡ Ok (k, (after, m)))
-    some None after n p f = absurd (let bad : ⊥ = omega (arith, p.1) in bad)
+    some None after n p f = absurd (omega (arith, p.1))
     some (Some k) after n p f = let o = kit_line.forth k after n tt f.0 in (o.0, go_on _ o.1)
-kit_counted (suc (suc n)) h = absurd (let bad : ⊥ = omega arith in bad)
+kit_counted (suc (suc n)) h = absurd (omega arith)
 
 pub kit_parses : Parses kit_section (λ k. section_text (codes "KIT") kit_words (option_to_list k)) (λ k. ((0 ≤ length (option_to_list k)) × (length (option_to_list k) ≤ 1)) × AllByRecursion KitShort (option_to_list k))
 kit_parses = part (count_parses kit_name 0 1 (omega arith)) (λ k. length (option_to_list k)) (λ n h. kit_counted n h.1)
@@ -61,7 +61,7 @@ kit_parses = part (count_parses kit_name 0 1 (omega arith)) (λ k. length (optio
 pub card_parses : Parses card_section (λ x. section_text (codes "CARD") card_words (x ∷ [])) (λ x. ((1 ≤ 1) × (1 ≤ 1)) × CardShort x)
 card_parses = part (count_parses card_name 1 1 (omega arith)) (λ x. 1) (λ n h. picked_so (λ x f. (tt, omega (arith, h.0, h.1))) (line_parses card_lays (λ x. omega arith)))
 
-pub most_few : (o : Option KitNumbers) → most_levels o ≤ 64
+pub most_few : (o : Option KitNumbers) → most_levels o ≤ 24
 most_few None = omega arith
 most_few (Some k) = omega arith
 
@@ -84,7 +84,7 @@ PartsFit f = (((0 ≤ length (option_to_list f.kit)) × (length (option_to_list 
 pub sections_parse : Parses sections text PartsFit
 sections_parse =
     part kit_parses (λ f. f.kit) (λ kit a.
-    part (section_parses level_lays (λ x. omega arith) levels_name (most_levels kit) (most_few kit)) (λ f. f.levels) (λ levels b.
+    part (section_parses level_lays (λ x. omega arith) levels_name (most_levels kit) (omega (arith, most_few kit))) (λ f. f.levels) (λ levels b.
     part (section_parses load_lays (λ x. omega arith) loads_name 64 (omega arith)) (λ f. f.loads) (λ loads c.
     part card_parses (λ f. f.card) (λ card d.
     done ((((tt, refl), refl), refl), refl) (λ f h. cc (whole_file f))))))

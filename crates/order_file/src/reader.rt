@@ -49,9 +49,8 @@ impl<'a> Reader<'a> {
     fn line(&mut self) -> Result<TextLine<'a>, Fault>
         ensures { Lined result (place self.new) self.old.line (next_line (place self.old)) }
     {
-        let Some((line, rest)) = TextLine::first_of(self.rest, self.line) else {
-            return Err(Fault::Layout { line: self.line });
-        };
+        let missing = Fault::Layout { line: self.line };
+        let (line, rest) = TextLine::first_of(self.rest, self.line).ok_or(missing)?;
         *self = Reader {
             rest,
             line: self.line + 1,

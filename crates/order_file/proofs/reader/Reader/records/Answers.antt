@@ -1,16 +1,8 @@
 use Rattle.std.proofs.Common.{◌+◌, vec_items, sym, subst, arith}
 use Rattle.order_file.specs.Reading.{place}
 use Rattle.order_file.proofs.Exits.{at_fault}
-use Rattle.order_file.proofs.Many.{Going, begun, faulty, one_more, all}
+use Rattle.order_file.proofs.Many.{Going, faulty, one_more}
 use Rattle.order_file.proofs.reader.Reader.records.Goals as goal
-
-pub loop-init : goal.loop-init
-loop-init g c = (
-  subst (λ xs. Going g.R.Record.layout c.args.count (place c.args.self.now) 0 xs (place c.args.self.now))
-      (sym c.new-records.ensures.items)
-      (begun g.R.Record.layout c.args.count (place c.args.self.now)),
-  c.new-records.ensures.len,
-)
 
 pub returns-in_err-record-clause-read : goal.returns-in_err-record-clause-read
 returns-in_err-record-clause-read g c = at_fault vec_items c.from_residual.result _ _ c.from_residual.ensures.1 (faulty c.loop.invariant.0 _ c.loop-test.true c.in_err-record.ensures)
@@ -22,6 +14,3 @@ loop-preserved g c = (
       (one_more c.loop.invariant.0 c.in_ok-record.field-0 (place c.record.new.self) c.loop-test.true c.in_ok-record.ensures),
   omega (arith, c.in_ok-push.ensures.len, c.loop.invariant.1),
 )
-
-pub returns-clause-read : goal.returns-clause-read
-returns-clause-read g c = all c.loop.invariant.0 c.loop-test.false
