@@ -3,3 +3,4 @@ pub mod Pushes
 pub mod Scans
 pub mod Tables
 pub mod Walks
+pub mod Kits
