@@ -18,6 +18,3 @@ raised_some h s t e =
 
 pub raised_none : (h : LevelHeight) (s : StoreyHeight) → raised h s ≡ None → 500 < h.0 + s.0
 raised_none h s e = leb-false _ _ (one_none (leb (h.0 + s.0) 500) (record { 0 = h.0 + s.0 }) None e).0
-
-pub same_height : (h t : LevelHeight) → h.0 ≡ t.0 → h ≡ t
-same_height h t e = ap (λ (n : ℕ). record { 0 = n }) e

@@ -1,5 +1,5 @@
 pub mod Heights
 pub mod Pushes
-pub mod Scans
 pub mod Tables
 pub mod Walks
+pub mod Kits

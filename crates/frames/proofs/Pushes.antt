@@ -1,11 +1,11 @@
 -- One storey more onto what stands.
-use Rattle.std.proofs.Common.{◌≡◌, ℕ, ◌+◌, ◌<◌, ◌≤◌, true, not, ltb, leb, List, [], ◌∷◌, ◌++◌, length, take, is_some, None, sym, ap, ◌∙◌, append_assoc, arith, length-append}
+use Rattle.std.proofs.Common.{◌≡◌, ℕ, ◌+◌, ◌<◌, true, not, ltb, leb, List, [], ◌∷◌, ◌++◌, length, take, is_some, None, sym, ap, ◌∙◌, append_assoc, arith, length-append}
 use Rattle.std.proofs.lemmas.Bool.{leb-false, lt-ltb, and_from, cond_both, cond-true}
 use Rattle.records.specs.declared.level.Level.{Level}
 use Rattle.frames.specs.declared.denial.FrameDenial.TheVariants.{TooManyLevels}
 use Rattle.frames.specs.Levels.{height_of}
 use Rattle.frames.specs.Steps.{stands, standing, stacked}
-use Rattle.frames.specs.Toppings.{add_denial, own_count}
+use Rattle.frames.specs.Toppings.{add_denial, denial_over, own_count}
 use Rattle.frames.specs.Cases.{one_none}
 use Rattle.frames.specs.Lists.{total_append}
 use Rattle.frames.specs.Stacks.{standing_take}
@@ -44,12 +44,17 @@ addable n s h l e =
       own_room = leb-false _ _ q.0;
     }
 
-pub same_denial : {n m s t h k : ℕ} (l : Level) → n ≡ m → s ≡ t → h ≡ k → add_denial n s h l ≡ add_denial m t k l
-same_denial {n} {m} {s} {t} {h} {k} l p q r = ap (λ (x : ℕ). add_denial x s h l) p ∙ ap (λ (x : ℕ). add_denial m x h l) q ∙ ap (λ (x : ℕ). add_denial m t x l) r
-
 -- the storeys of its own that stand are what the whole list has over the list below
 pub own_standing : (ls own : List Level) → length (standing (length ls) (height_of ls) own) ≡ own_count ls (stacked ls own)
 own_standing ls own = omega (arith, length-append ls (standing (length ls) (height_of ls) own))
 
-pub own_more : (ls whole after : List Level) (l : Level) → length ls ≤ length whole → after ≡ whole ++ l ∷ [] → own_count ls after ≡ own_count ls whole + 1
-own_more ls whole after l p e = omega (arith, ap length e, length-append whole (l ∷ []))
+-- the list where a level that may come on is put over those
+module _ (ls own : List Level) (l : Level) (n : ℕ) (e : denial_over ls (stacked ls own) l ≡ None) (c : n ≡ own_count ls (stacked ls own)) where
+  pub pushed : stacked ls (take n own ++ l ∷ []) ≡ stacked ls own ++ l ∷ []
+  pushed =
+      let all = stacked ls own in
+      ap (λ (m : ℕ). stacked ls (take m own ++ l ∷ [])) (c ∙ sym (own_standing ls own))
+      ∙ stacked_push ls own l (addable (length all) (own_count ls all) (height_of all) l e).stands_there
+
+  pub pushed_more : own_count ls (stacked ls (take n own ++ l ∷ [])) ≡ n + 1
+  pushed_more = omega (arith, c, ap length pushed, length-append (stacked ls own) (l ∷ []), length-append ls (standing (length ls) (height_of ls) own))

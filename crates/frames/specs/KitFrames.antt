@@ -1,12 +1,10 @@
 -- The list of a kit, and what making one answers.
-use Rattle.std.specs.Prelude.{◌≡◌, ℕ, ◌<◌, ◌≤◌, List, length, Some, None, Ok, Err, Option, Result}
+use Rattle.std.specs.Prelude.{◌≡◌, ℕ, ◌<◌, ◌≤◌, List, length, Some, None, Ok, Err, Result}
 use Rattle.records.specs.declared.kit_numbers.KitNumbers.{KitNumbers}
 use Rattle.records.specs.declared.level.Level.{Level}
 use Rattle.records.specs.Kits.{floor, roof}
 use Rattle.frames.specs.declared.denial.FrameDenial.{FrameDenial}
 use Rattle.frames.specs.declared.kit.Kit.{Kit}
-use Rattle.frames.specs.declared.kit.made.Part.{Part}
-use Rattle.frames.specs.declared.kit.made.Part.TheVariants.{Floor, Roof}
 use Rattle.frames.specs.Kits.{kit_denial, kit_list}
 use Rattle.frames.specs.Levels.{level_at}
 
@@ -34,9 +32,3 @@ MadeAlike n (Err d) = Unit {0}
 abbrev pub CheckedAlike : KitNumbers → Result (Unit {0}) FrameDenial → Type 0
 CheckedAlike n (Ok _) = Alike n (kit_list n)
 CheckedAlike n (Err d) = Unit {0}
-
--- the level that a part of a kit stands for
-abbrev pub part_level : KitNumbers → Option Part → Option Level
-part_level n (Some Floor) = Some (floor n)
-part_level n (Some Roof) = Some (roof n)
-part_level n None = None

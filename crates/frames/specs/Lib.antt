@@ -4,6 +4,7 @@ pub mod Kits
 pub mod Levels
 pub mod OwnStoreys
 pub mod Steps
+pub mod Steppings
 pub mod Tables
 pub mod Toppings
 pub mod TypedLists

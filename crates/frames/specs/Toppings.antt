@@ -5,7 +5,7 @@ use Rattle.frames.specs.declared.denial.FrameDenial.{FrameDenial}
 use Rattle.frames.specs.declared.denial.FrameDenial.TheVariants.{TooManyLevels}
 use Rattle.frames.specs.declared.topping.Topping.{Topping}
 use Rattle.frames.specs.declared.topping.Place.{Place}
-use Rattle.frames.specs.declared.topping.Place.TheVariants.{Below, Own, Nowhere}
+use Rattle.frames.specs.declared.topping.Place.TheVariants.{Below, Own}
 use Rattle.frames.specs.Levels.{height_of, level_at}
 use Rattle.frames.specs.OwnStoreys.{own_storeys}
 use Rattle.frames.specs.Steps.{step_denial, stacked}
@@ -42,7 +42,7 @@ Admitted below whole l (Ok own) = (denial_over below whole l ≡ None) × (own �
 Admitted below whole l (Err d) = denial_over below whole l ≡ Some d
 
 -- where level k of the whole list stands
-abbrev pub Placed : List Level → List Level → List Level → ℕ → Place → Type 0
-Placed below own whole k Below = level_at whole k ≡ level_at below k
-Placed below own whole k (Own j) = level_at whole k ≡ level_at own j
-Placed below own whole k Nowhere = level_at whole k ≡ None
+abbrev pub Placed : List Level → List Level → List Level → ℕ → Option Place → Type 0
+Placed below own whole k (Some Below) = level_at whole k ≡ level_at below k
+Placed below own whole k (Some (Own j)) = level_at whole k ≡ level_at own j
+Placed below own whole k None = level_at whole k ≡ None

@@ -33,9 +33,9 @@ impl Denial for FrameDenial {
 
     fn place(&self) -> u32 {
         match *self {
-            FrameDenial::TooManyLevels { level } => level,
-            FrameDenial::OutOfRange { level } => level,
-            FrameDenial::TooHigh { level } => level,
+            FrameDenial::TooManyLevels { level }
+            | FrameDenial::OutOfRange { level }
+            | FrameDenial::TooHigh { level } => level,
             FrameDenial::KitOutOfRange | FrameDenial::KitTooHigh => 0,
         }
     }

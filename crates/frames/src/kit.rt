@@ -7,7 +7,7 @@ use records::kit_numbers::KitNumbers;
 pub mod made;
 
 /// A frame by eight numbers.
-#[derive(Clone, Copy)]
+#[derive(Clone, Copy, Debug, PartialEq, Eq)]
 pub struct Kit {
     numbers: KitNumbers,
     ghost ok: { is_some (kit_denial numbers) ≡ false },

@@ -6,7 +6,7 @@ use crate::frame::Frame;
 use records::level::Level;
 
 /// What is left of a frame's levels, from the lowest up.
-#[derive(Drop)]
+#[derive(Debug, Drop)]
 pub struct Levels<'a, F> {
     pub(crate) frame: &'a F,
     pub(crate) passed: u32,

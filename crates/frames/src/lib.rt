@@ -4,10 +4,10 @@
 
 pub mod denial;
 pub mod frame;
-mod judge;
 pub mod kit;
 pub mod levels;
 mod listed;
+mod stack;
 mod storeys;
 pub mod topping;
 pub mod typed;

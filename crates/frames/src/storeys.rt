@@ -1,6 +1,5 @@
 //! The storeys that a topping keeps of its own.
 ghost use Rattle.std.specs.Prelude.{◌≡◌, ◌<◌, ◌≤◌, [], ◌∷◌, ◌++◌, take};
-ghost use Rattle.frames.specs.OwnStoreys.{own_storeys};
 
 use records::height::StoreyHeight;
 use records::level::Level;
@@ -16,16 +15,18 @@ const BLANK: Level = Level {
     width: 0,
 };
 
-// The first `count` of the records, from the lowest up.
-#[derive(Clone, Copy)]
+// The first `count` of the records, from the lowest up. An array in place, since a storey is put with
+// no memory asked for.
+#[derive(Clone, Copy, Debug)]
 pub(crate) struct Storeys {
     records: [Level; MOST_STOREYS],
     count: u32,
+    ghost few: { count ≤ 8 },
 }
 
 impl Storeys {
     pub(crate) fn none() -> Storeys
-        ensures { own_storeys result ≡ [] }
+        ensures { take result.count result.records ≡ [] }
     {
         Storeys {
             records: [BLANK; MOST_STOREYS],
@@ -35,17 +36,16 @@ impl Storeys {
 
     // The storeys in a slice.
     pub(crate) fn levels(&self) -> &[Level]
-        ensures { result.now ≡ own_storeys self.now }
+        ensures { result.now ≡ take self.now.count self.now.records }
     {
-        let count = self.count.min(MOST_STOREYS as u32);
-        &self.records[0..count as usize]
+        &self.records[..self.count as usize]
     }
 
     // Keeps the first so many of them, and puts a level onto those.
     pub(crate) fn put(&mut self, kept: u32, level: Level)
         requires within { kept < 8 }
         requires there { kept ≤ self.old.count }
-        ensures { own_storeys self.new ≡ take kept (own_storeys self.old) ++ level ∷ [] }
+        ensures { take self.new.count self.new.records ≡ take kept (take self.old.count self.old.records) ++ level ∷ [] }
     {
         self.records[kept as usize] = level;
         self.count = kept + 1;

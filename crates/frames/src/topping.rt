@@ -1,5 +1,6 @@
 //! A frame with up to eight storeys of its own over another.
 ghost use Rattle.std.specs.Prelude.{◌≡◌, ◌+◌, ◌≤◌, [], ◌∷◌, ◌++◌, length, Ok};
+ghost use Rattle.frames.specs.Levels.{height_of};
 ghost use Rattle.frames.specs.OwnStoreys.{own_storeys};
 ghost use Rattle.frames.specs.Tables.{Checked};
 ghost use Rattle.frames.specs.Toppings.{topped, own_count, add_denial, Added, Admitted, Placed};
@@ -7,26 +8,24 @@ ghost use Rattle.frames.specs.Stacks.{stacked_sound};
 
 use crate::denial::FrameDenial;
 use crate::frame::Frame;
-use crate::judge::judge;
-use crate::listed::{count_standing, level_of};
+use crate::listed::level_of;
+use crate::stack::Stack;
 use crate::storeys::Storeys;
-use records::height::LevelHeight;
 use records::level::Level;
-use records::limits::{MOST_LEVELS, MOST_STOREYS};
+use records::limits::MOST_STOREYS;
 
 /// Another frame with storeys on it.
-#[derive(Drop)]
+#[derive(Debug, Drop)]
 pub struct Topping<F> {
     below: F,
     own: Storeys,
 }
 
 // Where a level of a topping stands.
-#[derive(Clone, Copy)]
+#[derive(Clone, Copy, Debug, PartialEq, Eq)]
 enum Place {
     Below,
     Own { storey: u32 },
-    Nowhere,
 }
 
 impl<F: Frame> Topping<F> {
@@ -56,7 +55,7 @@ impl<F: Frame> Topping<F> {
         ensures { Admitted (F.Frame.list self.now.below) (topped F.Frame.list self.now) level.now result }
     {
         let own = self.standing();
-        judge_added(self.count(), own, self.top(), level)?;
+        judge_added(self.stack(), own, level)?;
         Ok(own)
     }
 
@@ -72,36 +71,44 @@ impl<F: Frame> Topping<F> {
 
     // How many of its own storeys stand.
     fn standing(&self) -> u32
-        ensures whole { length (F.Frame.list self.now.below) + result ≡ length (topped F.Frame.list self.now) }
-        ensures few { length (topped F.Frame.list self.now) ≤ 24 }
+        ensures { length (F.Frame.list self.now.below) + result ≡ length (topped F.Frame.list self.now) }
     {
-        count_standing(self.own.levels(), self.below.count(), self.below.top())
+        self.count() - self.below.count()
     }
 
-    // Where level k stands.
-    fn place(&self, k: u32) -> Place
+    // The frame below, and as many of its own storeys as stand on it.
+    fn stack(&self) -> Stack
+        ensures levels { result.levels ≡ length (topped F.Frame.list self.now) }
+        ensures top { result.top.0 ≡ height_of (topped F.Frame.list self.now) }
+    {
+        Stack::of(&self.below).with_standing(self.own.levels())
+    }
+
+    // Where level k stands, if there is one.
+    fn place(&self, k: u32) -> Option<Place>
         ensures { Placed (F.Frame.list self.now.below) (own_storeys self.now.own) (topped F.Frame.list self.now) k result }
     {
+        if k > self.count() {
+            return None;
+        }
         let base = self.below.count();
         if k <= base {
-            return Place::Below;
+            return Some(Place::Below);
         }
-        if k - base > self.standing() {
-            return Place::Nowhere;
-        }
-        Place::Own { storey: k - base }
+        Some(Place::Own { storey: k - base })
     }
 }
 
-// Whether one level more may come onto so many, of which so many are the topping's own.
-fn judge_added(levels: u32, own: u32, top: LevelHeight, level: &Level) -> Result<(), FrameDenial>
-    requires { levels ≤ 24 }
-    ensures { Checked (add_denial levels own top.0 level.now) result }
+// Whether one level more may come onto a stack, of which so many are the topping's own.
+fn judge_added(stack: Stack, own: u32, level: &Level) -> Result<(), FrameDenial>
+    ensures { Checked (add_denial stack.levels own stack.top.0 level.now) result }
 {
-    if levels >= MOST_LEVELS || own >= MOST_STOREYS as u32 {
-        return Err(FrameDenial::TooManyLevels { level: levels + 1 });
+    if own >= MOST_STOREYS as u32 {
+        return Err(FrameDenial::TooManyLevels {
+            level: stack.levels + 1,
+        });
     }
-    judge(levels, top, level)?;
+    stack.with(level)?;
     Ok(())
 }
 
@@ -111,14 +118,13 @@ impl<F: Frame> Frame for Topping<F> {
     ghost sound = { λ f. stacked_sound (F.Frame.list f.below) (own_storeys f.own) (F.Frame.sound f.below) };
 
     fn count(&self) -> u32 {
-        self.below.count() + self.standing()
+        self.stack().levels
     }
 
     fn level(&self, k: u32) -> Option<Level> {
-        match self.place(k) {
+        match self.place(k)? {
             Place::Below => self.below.level(k),
             Place::Own { storey } => level_of(self.own.levels(), storey),
-            Place::Nowhere => None,
         }
     }
 }

@@ -8,7 +8,7 @@ use std::alloc::Global;
 pub mod laid;
 
 /// The levels of the table that was laid last, kept in memory of `heap`.
-#[derive(Drop)]
+#[derive(Debug, Drop)]
 pub struct Typed {
     levels: Vec<Level>,
     heap: Global,

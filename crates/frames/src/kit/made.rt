@@ -1,8 +1,7 @@
 //! How a kit is made, and its list.
 ghost use Rattle.std.specs.Prelude.{◌≡◌};
 ghost use Rattle.frames.specs.Kits.{kit_in_range, kit_denial};
-ghost use Rattle.frames.specs.KitFrames.{made_list, part_level, CheckedAlike, Made, MadeAlike};
-ghost use Rattle.frames.specs.Levels.{level_at};
+ghost use Rattle.frames.specs.KitFrames.{made_list, CheckedAlike, Made, MadeAlike};
 ghost use Rattle.frames.specs.Tables.{Checked};
 ghost use Rattle.frames.specs.KitLists.{kit_sound};
 
@@ -13,13 +12,7 @@ use records::height::LevelHeight;
 use records::kit_numbers::KitNumbers;
 use records::level::Level;
 use records::limits::MOST_LEVELS;
-
-// Which of the two kinds of level one is.
-#[derive(Clone, Copy)]
-enum Part {
-    Floor,
-    Roof,
-}
+use std::cmp::Ordering;
 
 impl Kit {
     /// The frame that the numbers describe.
@@ -29,24 +22,6 @@ impl Kit {
     {
         check(&numbers)?;
         Ok(Kit { numbers })
-    }
-
-    // The part that level k is, if there is one.
-    fn part(&self, k: u32) -> Option<Part>
-        ensures { level_at (made_list self.now) k ≡ part_level self.now.numbers result }
-    {
-        let last = self.numbers.levels;
-        if k == 0 {
-            return None;
-        }
-        if k > last {
-            return None;
-        }
-        if k < last {
-            Some(Part::Floor)
-        } else {
-            Some(Part::Roof)
-        }
     }
 }
 
@@ -68,8 +43,7 @@ fn check(numbers: &KitNumbers) -> Result<(), FrameDenial>
 fn is_in_range(numbers: &KitNumbers) -> bool
     ensures { result ≡ kit_in_range numbers.now }
 {
-    1 <= numbers.levels
-        && numbers.levels <= MOST_LEVELS
+    (1..=MOST_LEVELS).contains(&numbers.levels)
         && numbers.floor().is_in_range()
         && numbers.roof().is_in_range()
 }
@@ -83,11 +57,15 @@ impl Frame for Kit {
         self.numbers.levels
     }
 
+    #[tactic(auto, using(crate::proofs::Kits::floor_at, crate::proofs::Kits::roof_at, crate::proofs::Kits::none_above))]
     fn level(&self, k: u32) -> Option<Level> {
-        match self.part(k) {
-            Some(Part::Floor) => Some(self.numbers.floor()),
-            Some(Part::Roof) => Some(self.numbers.roof()),
-            None => None,
+        if k == 0 {
+            return None;
+        }
+        match k.cmp(&self.numbers.levels) {
+            Ordering::Less => Some(self.numbers.floor()),
+            Ordering::Equal => Some(self.numbers.roof()),
+            Ordering::Greater => None,
         }
     }
 }

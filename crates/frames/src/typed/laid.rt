@@ -5,11 +5,10 @@ ghost use Rattle.frames.specs.TypedLists.{typed_list, Laid, LaidWhen};
 
 use crate::denial::FrameDenial;
 use crate::frame::Frame;
-use crate::judge::judge;
 use crate::listed::level_of;
+use crate::stack::Stack;
 use crate::typed::Typed;
 use records::failure::Failure;
-use records::height::LevelHeight;
 use records::level::Level;
 use records::limits::MOST_LEVELS;
 use std::alloc::Global;
@@ -46,9 +45,9 @@ fn check(table: &[Level]) -> Result<(), FrameDenial>
             level: MOST_LEVELS + 1,
         });
     }
-    let mut top = LevelHeight::ground();
-    for (i, level) in table.iter().enumerate() {
-        top = judge(i as u32, top, level)?;
+    let mut stack = Stack::ground();
+    for level in table {
+        stack = stack.with(level)?;
     }
     Ok(())
 }

@@ -1,32 +1,25 @@
-use Rattle.std.proofs.Common.{ℕ, ◌≤◌, [], ◌∷◌, ◌++◌, length, take, sym, refl, ap, ◌∙◌, arith, length-append, length-take}
+use Rattle.std.proofs.Common.{length, ap, ◌∙◌, arith, length-take}
 use Rattle.frames.specs.Levels.{height_of}
 use Rattle.frames.specs.OwnStoreys.{own_storeys}
-use Rattle.frames.specs.Steps.{standing, stacked}
+use Rattle.frames.specs.Steps.{stacked}
 use Rattle.frames.specs.Toppings.{own_count}
-use Rattle.frames.proofs.Pushes.{stacked_push, addable, own_standing, own_more}
 use Rattle.frames.specs.Stacks.{standing_length}
+use Rattle.frames.proofs.Pushes.{pushed, pushed_more, own_standing}
 use Rattle.frames.proofs.topping.Topping.put.Goals as goal
 
-pub put-requires : goal.put-requires
-put-requires g c =
+pub put-requires-clause-there : goal.put-requires-clause-there
+put-requires-clause-there g c =
     let t = c.args.self.now in
     let ls = g.F.Frame.list t.below in
     let own = own_storeys t.own in
-    let all = stacked ls own in
-    let short : length own ≤ t.own.count = simp length-take (omega arith) in
-    let ok = addable (length all) (own_count ls all) (height_of all) c.args.level c.requires.0 in
-    record { within = omega (arith, c.requires.1, ok.own_room); there = omega (arith, c.requires.1, own_standing ls own, standing_length (length ls) (height_of ls) own) }
+    omega (arith, c.requires.1, own_standing ls own, standing_length (length ls) (height_of ls) own, length-take t.own.count t.own.records)
 
-pub returns : goal.returns
-returns g c =
-    let t = c.args.self.now in
-    let ls = g.F.Frame.list t.below in
-    let own = own_storeys t.own in
-    let all = stacked ls own in
-    let level = c.args.level in
-    let ok = addable (length all) (own_count ls all) (height_of all) level c.requires.0 in
-    let n = c.requires.1 ∙ sym (own_standing ls own) in
-    let after = ap (stacked ls) (c.put.ensures ∙ ap (λ (n : ℕ). take n own ++ level ∷ []) n) ∙ stacked_push ls own level ok.stands_there in
-    let over : length ls ≤ length all = omega (arith, length-append ls (standing (length ls) (height_of ls) own)) in
-    let more = own_more ls all (stacked ls (own_storeys c.put.new.self)) level over after in
-    record { list = after; more = omega (arith, c.requires.1, more); below = refl }
+pub returns-clause-list : goal.returns-clause-list
+returns-clause-list g c =
+    let ls = g.F.Frame.list c.args.self.now.below in
+    ap (stacked ls) c.put.ensures ∙ pushed ls (own_storeys c.args.self.now.own) c.args.level c.args.own c.requires.0 c.requires.1
+
+pub returns-clause-more : goal.returns-clause-more
+returns-clause-more g c =
+    let ls = g.F.Frame.list c.args.self.now.below in
+    ap (λ own. own_count ls (stacked ls own)) c.put.ensures ∙ pushed_more ls (own_storeys c.args.self.now.own) c.args.level c.args.own c.requires.0 c.requires.1
