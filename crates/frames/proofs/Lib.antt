@@ -1,4 +1,5 @@
 pub mod Heights
+pub mod Passes
 pub mod Pushes
 pub mod Tables
 pub mod Walks

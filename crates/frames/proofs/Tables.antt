@@ -12,8 +12,8 @@ use Rattle.frames.specs.Lists.{total_step, sound_from}
 
 -- the level over k others, and what is left over it
 next : (ls : List Level) (k : ℕ) (l : Level) (rest : List Level) → drop k ls ≡ l ∷ rest → (from_bottom ls k ≡ Some l) × (drop (suc k) ls ≡ rest)
-next [] zero l rest e = let z : ◌≡◌ {A = ℕ} 0 1 = cc in absurd (omega arith)
-next [] (suc k) l rest e = let z : ◌≡◌ {A = ℕ} 0 1 = cc in absurd (omega arith)
+next [] zero l rest e = cc
+next [] (suc k) l rest e = cc
 next (x ∷ xs) zero l rest e = let a : x ≡ l = cc in let b : xs ≡ rest = cc in (ap Some a, b)
 next (x ∷ xs) (suc k) l rest e = next xs k l rest e
 
@@ -27,7 +27,7 @@ module _ (table : List Level) (few : length table ≤ 24) where
       ]
 
   met : (rest : List Level) (k h : ℕ) (d : FrameDenial) → drop k table ≡ rest → level_height table k ≡ h → GoodBelow table (k + 1) → denial_from k h rest ≡ Some d → DeniedWhen table d
-  met [] k h d left height good e = let z : ◌≡◌ {A = ℕ} 0 1 = cc in absurd (omega arith)
+  met [] k h d left height good e = cc
   met (l ∷ rest) k h d left height good e =
       let s : suc k ≡ k + 1 = omega arith in
       let n = next table k l rest left in

@@ -5,14 +5,14 @@ use Rattle.frames.specs.Levels.{Sound, from_bottom, level_at}
 use Rattle.frames.specs.Lists.{limits}
 
 found : (ls : List Level) (i : ℕ) (l : Level) → from_bottom ls i ≡ Some l → (drop i ls ≡ l ∷ drop (suc i) ls) × (i < length ls)
-found [] i l e = let z : ◌≡◌ {A = ℕ} 0 1 = cc in absurd (omega arith)
+found [] i l e = cc
 found (x ∷ xs) zero l e = let w : x ≡ l = cc in (ap (λ (y : Level). y ∷ xs) w, omega arith)
 found (x ∷ xs) (suc i) l e = let f = found xs i l e in (f.0, omega (arith, f.1))
 
 ended : (ls : List Level) (i : ℕ) → from_bottom ls i ≡ None → drop i ls ≡ []
 ended [] zero e = refl
 ended [] (suc i) e = refl
-ended (x ∷ xs) zero e = let z : ◌≡◌ {A = ℕ} 0 1 = cc in absurd (omega arith)
+ended (x ∷ xs) zero e = cc
 ended (x ∷ xs) (suc i) e = ended xs i e
 
 -- where there is a level over i others, it comes next

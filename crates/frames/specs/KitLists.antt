@@ -1,8 +1,8 @@
 -- What is known of a kit's list.
-use Rattle.std.specs.Prelude.{◌≡◌, ℕ, zero, suc, ◌+◌, ◌-◌, ◌*◌, ◌<◌, ◌≤◌, true, false, [], ◌∷◌, length, replicate, is_some, Some, nat_le, nat_lt, refl}
+use Rattle.std.specs.Prelude.{◌≡◌, ℕ, zero, suc, ◌+◌, ◌-◌, ◌*◌, ◌<◌, ◌≤◌, true, false, not, [], ◌∷◌, length, replicate, is_some, Some, None, nat_le, nat_lt, refl}
 use Rattle.std.proofs.Common.{sym, ap, ◌∙◌, arith, suc-mul, length-append}
 use Rattle.std.proofs.lemmas.List.{get_or-replicate, get_or_append_left, get_or_at, length-replicate}
-use Rattle.std.proofs.lemmas.Bool.{and_from, and_parts, leb-true, ltb-false}
+use Rattle.std.proofs.lemmas.Bool.{and_from, and_parts, leb-true, ltb-false, le-ltb, not_from_true, cond-false}
 use Rattle.records.specs.declared.kit_numbers.KitNumbers.{KitNumbers}
 use Rattle.records.specs.declared.level.Level.{Level}
 use Rattle.records.specs.Kits.{floor, roof}
@@ -48,6 +48,9 @@ pub allowed : (n : KitNumbers) → is_some (kit_denial n) ≡ false → Allowed 
 allowed n e =
     let p = two_passed (kit_in_range n) (nat_lt 500 (n.levels * n.height.0)) KitOutOfRange KitTooHigh e in
     record { in_range = ranged n p.0; low = ltb-false _ _ p.1 }
+
+pub no_denial : (n : KitNumbers) → kit_in_range n ≡ true → n.levels * n.height.0 ≤ 500 → kit_denial n ≡ None
+no_denial n t low = cond-false (not (kit_in_range n)) _ _ (not_from_true _ t) ∙ cond-false (nat_lt 500 (n.levels * n.height.0)) _ _ (le-ltb _ _ low)
 
 pub kit_length : (n : KitNumbers) → 1 ≤ n.levels → length (kit_list n) ≡ n.levels
 kit_length n p = omega (arith, length-append (replicate (n.levels - 1) (floor n)) (roof n ∷ []), length-replicate (n.levels - 1) (floor n))

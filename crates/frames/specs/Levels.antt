@@ -1,6 +1,5 @@
 -- Lists of levels, from the lowest up, and which of them a frame may have.
 use Rattle.std.specs.Prelude.{◌≡◌, ℕ, zero, suc, ◌+◌, Bool, true, ◌&&◌, List, [], ◌∷◌, length, take, Some, None, Option, nat_le}
-use Rattle.std.specs.List.{sum_by}
 use Rattle.records.specs.declared.height.LevelHeight.{LevelHeight}
 use Rattle.records.specs.declared.level.Level.{Level}
 use Rattle.records.specs.Ranges.{level_fits}
@@ -24,7 +23,7 @@ level_height ls k = height_of (take k ls)
 
 -- tenths of a tonne
 abbrev pub weight_of : List Level → ℕ
-weight_of ls = sum_by (λ l. l.weight) ls
+weight_of ls = total (λ l. l.weight) ls
 
 -- the level that has i levels below it
 abbrev pub from_bottom : List Level → ℕ → Option Level

@@ -1,7 +1,8 @@
 -- What stands of the storeys put onto a list.
-use Rattle.std.specs.Prelude.{◌≡◌, ℕ, suc, ◌+◌, ◌<◌, ◌≤◌, true, List, [], ◌∷◌, ◌++◌, length, take, nat_lt, refl}
+use Rattle.std.specs.Prelude.{◌≡◌, ℕ, suc, ◌+◌, ◌<◌, ◌≤◌, true, false, List, [], ◌∷◌, ◌++◌, length, get_or, take, drop, nat_lt, slice_index_or, refl}
 use Rattle.std.proofs.Common.{ap, ◌∙◌, arith, length-append}
-use Rattle.std.proofs.lemmas.Bool.{ltb-true, ltb-false, and_parts, and_from, not-true, cond_both}
+use Rattle.std.proofs.lemmas.List.{at_drop_more, at_drop_all}
+use Rattle.std.proofs.lemmas.Bool.{ltb-true, ltb-false, and_parts, and_from, not-true, cond_both, cond-true, cond-false}
 use Rattle.records.specs.declared.level.Level.{Level}
 use Rattle.records.specs.Ranges.{level_fits}
 use Rattle.frames.specs.declared.denial.FrameDenial.TheVariants.{OutOfRange, TooHigh}
@@ -69,3 +70,21 @@ standing_take k h (l ∷ ls) =
 
 pub standing_at : (k h : ℕ) (ls : List Level) (j : ℕ) → j ≤ length (standing k h ls) → level_at (standing k h ls) j ≡ level_at ls j
 standing_at k h ls j q = ap (λ (xs : List Level). level_at xs j) (standing_take k h ls) ∙ at_take ls (length (standing k h ls)) j q
+
+-- a walk over the storeys, at place i
+module _ (ls : List Level) (i : ℕ) (d : Level) (k h : ℕ) where
+  pub standing_next : i < length ls → stands k h (slice_index_or ls i d) ≡ true → length (standing k h (drop i ls)) ≡ length (standing (k + 1) (h + (get_or ls i d).height.0) (drop (i + 1) ls)) + 1
+  standing_next p s =
+      let e = cond-true (stands k h (slice_index_or ls i d)) (slice_index_or ls i d ∷ standing (k + 1) (h + (get_or ls i d).height.0) (drop (i + 1) ls)) [] s in
+      omega (arith, at_drop_more (λ (xs : List Level). length (standing k h xs)) ls i d p ∙ ap length e)
+
+  pub standing_stop : i < length ls → stands k h (slice_index_or ls i d) ≡ false → length (standing k h (drop i ls)) ≡ 0
+  standing_stop p s =
+      let e = cond-false (stands k h (slice_index_or ls i d)) (slice_index_or ls i d ∷ standing (k + 1) (h + (get_or ls i d).height.0) (drop (i + 1) ls)) [] s in
+      at_drop_more (λ (xs : List Level). length (standing k h xs)) ls i d p ∙ ap length e
+
+  pub standing_end : length ls ≤ i → length (standing k h (drop i ls)) ≡ 0
+  standing_end p = at_drop_all (λ (xs : List Level). length (standing k h xs)) ls i p
+
+pub same_standing : {n m h k : ℕ} {xs ys : List Level} → n ≡ m → h ≡ k → xs ≡ ys → length (standing n h xs) ≡ length (standing m k ys)
+same_standing {n} {m} {h} {k} {xs} {ys} p q r = ap (λ (x : ℕ). length (standing x h xs)) p ∙ ap (λ (x : ℕ). length (standing m x xs)) q ∙ ap (λ (zs : List Level). length (standing m k zs)) r

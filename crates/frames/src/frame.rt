@@ -33,28 +33,26 @@ pub trait Frame {
     }
 
     /// The height of the last level over the ground. The running sum never passes the limit, by the law.
-    final fn top(&self) -> LevelHeight
-    where
-        Self: Sized,
+    fn top(&self) -> LevelHeight
         ensures { result ≡ top_of (list self.now) }
     {
         let mut top = LevelHeight::ground();
-        for level in self.levels() {
-            let Some(higher) = top.above(level.height) else {
-                unreachable()
-            };
-            top = higher;
+        for k in 1..=self.count() {
+            let level = self.level(k).unwrap();
+            top = top.above(level.height).unwrap();
         }
         top
     }
 
     /// The weight of all levels, in tenths of a tonne.
-    final fn total_weight(&self) -> u32
-    where
-        Self: Sized,
+    fn total_weight(&self) -> u32
         ensures { result ≡ weight_of (list self.now) }
     {
-        self.levels().map(|level| level.weight).sum()
+        let mut sum = 0;
+        for k in 1..=self.count() {
+            sum += self.level(k).unwrap().weight;
+        }
+        sum
     }
 
     ghost sound: { (f : Self) → Sound (list f) };

@@ -1,6 +1,5 @@
 -- How far a listing has come.
-use Rattle.std.proofs.Common.{◌≡◌, ℕ, zero, suc, ◌+◌, ◌≤◌, leb, List, [], ◌∷◌, ◌++◌, length, drop, Some, None, sym, ap, ◌∙◌, append_assoc, add-one, arith}
-use Rattle.std.proofs.lemmas.Bool.{cond-true, le-leb}
+use Rattle.std.proofs.Common.{◌≡◌, ℕ, zero, suc, ◌+◌, ◌≤◌, List, [], ◌∷◌, ◌++◌, length, drop, Some, sym, ap, ◌∙◌, append_assoc, add-one, arith}
 use Rattle.std.specs.declared.iter.Enumerate.{Enumerate}
 use Rattle.std.specs.Iterator.Adapters.{enumerate_source, enumerate_count}
 use Rattle.records.specs.declared.height.LevelHeight.{LevelHeight}
@@ -8,6 +7,7 @@ use Rattle.records.specs.declared.level.Level.{Level}
 use Rattle.tokens.specs.Text.{line_of}
 use Rattle.frames.specs.declared.levels.Levels.{Levels}
 use Rattle.records.specs.Heights.{raised}
+use Rattle.frames.proofs.Heights.{raised_within}
 use Rattle.frames.specs.Lists.{limits, total_more, total_within}
 use Rattle.frames.specs.Levels.{Sound, from_bottom, level_at, level_height}
 use Rattle.frames.specs.Walks.{levels_left}
@@ -26,8 +26,8 @@ pub record Next (ls : List Level) (n : ℕ) (l : Level) (rest : List Level) : Ty
   pub left : rest ≡ drop (n + 1) ls
 
 next_at : (ls : List Level) (n : ℕ) (l : Level) (rest : List Level) → drop n ls ≡ l ∷ rest → (suc n ≤ length ls) × (from_bottom ls n ≡ Some l) × (rest ≡ drop (suc n) ls)
-next_at [] zero l rest e = let z : ◌≡◌ {A = ℕ} 0 1 = cc in absurd (omega arith)
-next_at [] (suc n) l rest e = let z : ◌≡◌ {A = ℕ} 0 1 = cc in absurd (omega arith)
+next_at [] zero l rest e = cc
+next_at [] (suc n) l rest e = cc
 next_at (x ∷ xs) zero l rest e = (omega arith, cc, cc)
 next_at (x ∷ xs) (suc n) l rest e = let p = next_at xs n l rest e in (omega (arith, p.0), p.1, p.2)
 
@@ -42,7 +42,7 @@ next ls n l rest e =
 
 pub none_left : (ls : List Level) (n : ℕ) → drop n ls ≡ [] → length ls ≤ n
 none_left [] n e = omega arith
-none_left (x ∷ xs) zero e = let z : ◌≡◌ {A = ℕ} 0 1 = cc in absurd (omega arith)
+none_left (x ∷ xs) zero e = cc
 none_left (x ∷ xs) (suc n) e = omega (arith, none_left xs n e)
 
 -- one level's line more
@@ -62,4 +62,4 @@ risen ls n l height sound at high =
     let h : Level → ℕ = λ (x : Level). x.height.0 in
     let low : height.0 + l.height.0 ≤ 500 = omega (arith, high, (limits ls sound).low, total_within h ls n l at) in
     let sum : height.0 + l.height.0 ≡ level_height ls (n + 1) = omega (arith, high, total_more h ls n l at) in
-    cond-true (leb (height.0 + l.height.0) 500) _ None (le-leb _ _ low) ∙ ap (λ (x : ℕ). Some (record { 0 = x })) sum
+    raised_within height l.height low ∙ ap (λ (x : ℕ). Some (record { 0 = x })) sum

@@ -51,7 +51,7 @@ wider a b c d KitOutOfRange h e p = p
 wider a b c d KitTooHigh h e p = p
 
 added_between : (base rest : List Level) (s : ℕ) (d : FrameDenial) → first_added_denial base s rest ≡ Some d → Between (length base) (length base + length rest) d
-added_between base [] s d e = let z : ◌≡◌ {A = ℕ} 0 1 = cc in absurd (omega arith)
+added_between base [] s d e = cc
 added_between base (l ∷ rest) s d e =
     let k = length base + 1 in
     let here : (length base < k) × (k ≤ length base + length (l ∷ rest)) = (omega arith, omega arith) in
@@ -69,7 +69,7 @@ added_between base (l ∷ rest) s d e =
     ]
 
 scanned_between : (k h : ℕ) (rest : List Level) (d : FrameDenial) → denial_from k h rest ≡ Some d → Between k (k + length rest) d
-scanned_between k h [] d e = let z : ◌≡◌ {A = ℕ} 0 1 = cc in absurd (omega arith)
+scanned_between k h [] d e = cc
 scanned_between k h (l ∷ rest) d e =
     let here : (k < k + 1) × (k + 1 ≤ k + length (l ∷ rest)) = (omega arith, omega arith) in
     elim (two_some (level_fits l) (ltb 500 (h + l.height.0)) (OutOfRange (k + 1)) (TooHigh (k + 1)) d _ e) [

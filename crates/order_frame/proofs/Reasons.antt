@@ -61,10 +61,10 @@ added_some false true a b d step later e = inr (inl (refl, refl, cc))
 added_some false false a b d step later e = inr (inr (refl, refl, e))
 
 added_none : (t u : Bool) (a b : FrameDenial) (step later : Option FrameDenial) → or_else (cond t (Some a) (cond u (Some b) step)) later ≡ None → (t ≡ false) × (u ≡ false) × (step ≡ None) × (later ≡ None)
-added_none true u a b step later e = let z : ◌≡◌ {A = ℕ} 0 1 = cc in absurd (omega arith)
-added_none false true a b step later e = let z : ◌≡◌ {A = ℕ} 0 1 = cc in absurd (omega arith)
+added_none true u a b step later e = cc
+added_none false true a b step later e = cc
 added_none false false a b None later e = (refl, refl, refl, e)
-added_none false false a b (Some d) later e = let z : ◌≡◌ {A = ℕ} 0 1 = cc in absurd (omega arith)
+added_none false false a b (Some d) later e = cc
 
 passed : (t u : Bool) (a b : FrameDenial) → t ≡ true → u ≡ false → cond (not t) (Some a) (cond u (Some b) None) ≡ None
 passed true false a b h k = refl
@@ -73,7 +73,7 @@ passed false u a b h k = let y : ◌≡◌ {A = ℕ} 0 1 = cc in absurd (omega a
 
 -- storeys added onto a kit, from below
 added : (n : KitNumbers) (levels base rest : List Level) (s : ℕ) (d : FrameDenial) → frame_levels (Some n) levels ≡ base ++ rest → Sound base → length base ≡ n.levels + s → s ≤ 8 → first_added_denial base s rest ≡ Some d → Reason (Some n) levels d
-added n levels base [] s d is sound count own e = let z : ◌≡◌ {A = ℕ} 0 1 = cc in absurd (omega arith)
+added n levels base [] s d is sound count own e = cc
 added n levels base (l ∷ rest) s d is sound count own e =
     let whole = frame_levels (Some n) levels in
     let k = length base + 1 in
@@ -104,7 +104,7 @@ all_added base (l ∷ rest) s sound e =
 
 -- a table, scanned from below
 scanned : (levels base rest : List Level) (d : FrameDenial) → levels ≡ base ++ rest → Sound base → length levels ≤ 24 → denial_from (length base) (height_of base) rest ≡ Some d → Reason None levels d
-scanned levels base [] d is sound few e = let z : ◌≡◌ {A = ℕ} 0 1 = cc in absurd (omega arith)
+scanned levels base [] d is sound few e = cc
 scanned levels base (l ∷ rest) d is sound few e =
     let k = length base + 1 in
     let below : FrameBelow levels k = subst Sound (sym (below_here levels base l rest is)) sound in
@@ -132,7 +132,7 @@ good_sound (Some n) levels e =
   where
     both_none : (o later : Option FrameDenial) → or_else o later ≡ None → (o ≡ None) × (later ≡ None)
     both_none None later h = (refl, h)
-    both_none (Some d) later h = let z : ◌≡◌ {A = ℕ} 0 1 = cc in absurd (omega arith)
+    both_none (Some d) later h = cc
 
 pub denied_reason : (kit : Option KitNumbers) (levels : List Level) (d : FrameDenial) → frame_denial kit levels ≡ Some d → Reason kit levels d
 denied_reason None levels d e =

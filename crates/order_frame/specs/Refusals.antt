@@ -2,7 +2,6 @@
 use Rattle.std.specs.Prelude.{ℕ, ◌-◌, List, [], ◌∷◌, Some, None, codes, decimal, Option}
 use Rattle.std.specs.Option.{option_map}
 use Rattle.records.specs.declared.kit_numbers.KitNumbers.{KitNumbers}
-use Rattle.tokens.specs.declared.fault.Fault.{Fault}
 use Rattle.tokens.specs.Faults.{fault_number, fault_place, fault_line}
 use Rattle.frames.specs.declared.denial.FrameDenial.{FrameDenial}
 use Rattle.frames.specs.declared.denial.FrameDenial.TheVariants.{TooManyLevels, OutOfRange, TooHigh, KitOutOfRange, KitTooHigh}

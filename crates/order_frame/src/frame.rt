@@ -19,7 +19,7 @@ use records::level::Level;
 use std::alloc::Global;
 
 /// The levels of a file in a typed frame, or in a topping on its kit.
-#[derive(Drop)]
+#[derive(Debug, Drop)]
 pub enum OrderFrame {
     Typed(Typed),
     Topped(Topping<Kit>),
@@ -40,7 +40,11 @@ impl OrderFrame {
 }
 
 // Lays the levels, or puts them on the kit from below.
-fn make(kit: Option<KitNumbers>, levels: &[Level], heap: Global) -> Result<OrderFrame, Failure<FrameDenial>>
+fn make(
+    kit: Option<KitNumbers>,
+    levels: &[Level],
+    heap: Global,
+) -> Result<OrderFrame, Failure<FrameDenial>>
     ensures { Framed kit levels.now result }
 {
     match kit {

@@ -3,7 +3,7 @@ use crate::frame::OrderFrame;
 use order_file::contents::OrderFile;
 
 /// The records of an order file and the frame that they describe.
-#[derive(Drop)]
+#[derive(Debug, Drop)]
 pub struct Opened {
     pub file: OrderFile,
     pub frame: OrderFrame,

@@ -53,8 +53,8 @@ impl Denial for Refusal {
 impl From<Fault> for Refusal {
     ghost from_gives = { λ fault r. r ≡ Faulty fault };
 
-    fn from(fault: Fault) -> Refusal {
-        Refusal::Faulty(fault)
+    fn from(fault: Fault) -> Self {
+        Self::Faulty(fault)
     }
 }
 
@@ -62,6 +62,12 @@ impl fmt::Display for Refusal {
     ghost output = { λ r. Some (joined (refused_words r)) };
 
     fn fmt<W: fmt::Write>(&self, f: &mut fmt::Formatter<W>) -> fmt::Result {
-        write!(f, "REFUSED {} {} {}", self.number(), self.line(), self.place())
+        write!(
+            f,
+            "REFUSED {} {} {}",
+            self.number(),
+            self.line(),
+            self.place()
+        )
     }
 }

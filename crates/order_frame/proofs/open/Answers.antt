@@ -1,4 +1,4 @@
-use Rattle.std.proofs.Common.{◌≡◌, ℕ, true, take, Ok, Err, Result, IfOk, is_ok, MatchResult, subst, arith}
+use Rattle.std.proofs.Common.{◌≡◌, true, take, Ok, Err, Result, IfOk, is_ok, MatchResult, subst}
 use Rattle.order_file.specs.File.{order_file_of, filed, ReadAs}
 use Rattle.order_file.specs.Lines.{LinedUp}
 use Rattle.order_frame.proofs.open.Goals as goal
@@ -6,7 +6,7 @@ use Rattle.order_frame.proofs.open.Goals as goal
 -- a value that `map_err` hands on is the one that there was
 handed_on : {T E : Type 0} (D : Type 0) (r : Result T E) (x : T) (Q : E → Type 0) → MatchResult r (λ y. ◌≡◌ {A = Result T D} (Ok x) (Ok y)) Q → true ≡ is_ok r → r ≡ Ok x
 handed_on D (Ok y) x Q e v = cc
-handed_on D (Err e) x Q h v = let z : ◌≡◌ {A = ℕ} 0 1 = cc in absurd (omega arith)
+handed_on D (Err e) x Q h v = cc
 
 pub returns-in-Err-Denied : goal.returns-in-Err-Denied
 returns-in-Err-Denied c =

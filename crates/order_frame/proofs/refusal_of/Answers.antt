@@ -1,4 +1,4 @@
-use Rattle.std.proofs.Common.{◌≡◌, ℕ, ◌≤◌, length, ap, arith, rules}
+use Rattle.std.proofs.Common.{◌≡◌, ◌≤◌, length, ap, arith, rules}
 use Rattle.order_file.specs.File.{filed}
 use Rattle.order_frame.specs.declared.refusal.Refusal.TheVariants.{Unframed}
 use Rattle.order_frame.specs.Refusals.{blamed_line}
