@@ -1,9 +1,13 @@
-//! What stands so far, level on level.
-ghost use Rattle.std.specs.Prelude.{◌≤◌};
+//! What stands so far, level on level, and when one more may come onto it.
+ghost use Rattle.std.specs.Prelude.{◌≡◌, ◌+◌, ◌≤◌, length};
+ghost use Rattle.frames.specs.Levels.{height_of, top_of};
+ghost use Rattle.frames.specs.Steps.{standing};
 
+use crate::denial::FrameDenial;
+use crate::frame::Frame;
 use records::height::LevelHeight;
-
-mod steps;
+use records::level::Level;
+use records::limits::MOST_LEVELS;
 
 // So many levels, and the height of the last of them.
 #[derive(Clone, Copy, Debug, PartialEq, Eq)]
@@ -11,4 +15,65 @@ pub(crate) struct Stack {
     pub(crate) levels: u32,
     top: LevelHeight,
     ghost few: { levels ≤ 24 },
+}
+
+impl Stack {
+    ghost use Rattle.frames.specs.Steppings.{Stepped};
+
+    // No level as yet.
+    pub(crate) fn ground() -> Stack
+        ensures levels { result.levels ≡ 0 }
+        ensures top { result.top.0 ≡ 0 }
+    {
+        Stack {
+            levels: 0,
+            top: LevelHeight::ground(),
+        }
+    }
+
+    // The levels of a frame.
+    pub(crate) fn of<F: Frame>(frame: &F) -> Stack
+        ensures levels { result.levels ≡ length (F.Frame.list frame.now) }
+        ensures top { result.top ≡ top_of (F.Frame.list frame.now) }
+    {
+        Stack {
+            levels: frame.count(),
+            top: frame.top(),
+        }
+    }
+
+    // One level more.
+    pub(crate) fn with(self, level: &Level) -> Result<Stack, FrameDenial>
+        ensures { Stepped self level.now result }
+    {
+        let number = self.levels + 1;
+        if self.levels >= MOST_LEVELS {
+            return Err(FrameDenial::TooManyLevels { level: number });
+        }
+        if !level.is_in_range() {
+            return Err(FrameDenial::OutOfRange { level: number });
+        }
+        let top = self
+            .top
+            .above(level.height)
+            .ok_or(FrameDenial::TooHigh { level: number })?;
+        Ok(Stack {
+            levels: number,
+            top,
+        })
+    }
+
+    // As many of the storeys more as stand, from the lowest up.
+    pub(crate) fn with_standing(mut self, storeys: &[Level]) -> Stack
+        ensures levels { result.levels ≡ self.levels + length (standing self.levels self.top.0 storeys.now) }
+        ensures top { result.top.0 ≡ self.top.0 + height_of (standing self.levels self.top.0 storeys.now) }
+    {
+        for storey in storeys {
+            let Ok(higher) = self.with(storey) else {
+                return self;
+            };
+            self = higher;
+        }
+        self
+    }
 }

@@ -25,8 +25,10 @@ pub(crate) struct Storeys {
 }
 
 impl Storeys {
+    ghost use Rattle.frames.specs.OwnStoreys.{own_storeys};
+
     pub(crate) fn none() -> Storeys
-        ensures { take result.count result.records ≡ [] }
+        ensures { own_storeys result ≡ [] }
     {
         Storeys {
             records: [BLANK; MOST_STOREYS],
@@ -36,7 +38,7 @@ impl Storeys {
 
     // The storeys in a slice.
     pub(crate) fn levels(&self) -> &[Level]
-        ensures { result.now ≡ take self.now.count self.now.records }
+        ensures { result.now ≡ own_storeys self.now }
     {
         &self.records[..self.count as usize]
     }
@@ -45,7 +47,7 @@ impl Storeys {
     pub(crate) fn put(&mut self, kept: u32, level: Level)
         requires within { kept < 8 }
         requires there { kept ≤ self.old.count }
-        ensures { take self.new.count self.new.records ≡ take kept (take self.old.count self.old.records) ++ level ∷ [] }
+        ensures { own_storeys self.new ≡ take kept (own_storeys self.old) ++ level ∷ [] }
     {
         self.records[kept as usize] = level;
         self.count = kept + 1;

@@ -3,7 +3,7 @@ use Rattle.std.proofs.lemmas.Grind.{common_steps}
 use Rattle.std.proofs.lemmas.Result.{err_from_is_err_and}
 use Rattle.frames.specs.Tables.{lay_denial}
 use Rattle.frames.proofs.Tables.{laid_sound, denied_when}
-use Rattle.frames.proofs.typed.laid.check.Goals as goal
+use Rattle.frames.proofs.typed.check.Goals as goal
 
 pub returns-in_err-stack-clause-law : goal.returns-in_err-stack-clause-law
 returns-in_err-stack-clause-law c =

@@ -1,6 +1,6 @@
 use Rattle.std.proofs.Common.{◌≡◌, drop}
 use Rattle.frames.specs.Tables.{denial_from}
-use Rattle.frames.proofs.typed.laid.check.Given as goal
+use Rattle.frames.proofs.typed.check.Given as goal
 
 abbrev pub invariant-loop-level : goal.invariant-loop-level
 invariant-loop-level l = record {
