@@ -1,6 +1,6 @@
 pub mod Heights
 pub mod Passes
-pub mod Pushes
 pub mod Tables
+pub mod Toppings
 pub mod Walks
 pub mod Kits

@@ -1,3 +1,4 @@
+pub mod Additions
 pub mod Denials
 pub mod KitFrames
 pub mod Kits

@@ -14,7 +14,7 @@ use std::cmp::Ordering;
 #[derive(Clone, Copy, Debug, PartialEq, Eq)]
 pub struct Kit {
     numbers: KitNumbers,
-    ghost ok: { is_some (kit_denial numbers) ≡ false },
+    pub ghost ok: { is_some (kit_denial numbers) ≡ false },
     ghost counted: { length (kit_list numbers) ≡ numbers.levels },
 }
 

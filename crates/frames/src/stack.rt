@@ -1,7 +1,6 @@
 //! What stands so far, level on level, and when one more may come onto it.
 ghost use Rattle.std.specs.Prelude.{◌≡◌, ◌+◌, ◌≤◌, length};
 ghost use Rattle.frames.specs.Levels.{height_of, top_of};
-ghost use Rattle.frames.specs.Steps.{standing};
 
 use crate::denial::FrameDenial;
 use crate::frame::Frame;
@@ -61,19 +60,5 @@ impl Stack {
             levels: number,
             top,
         })
-    }
-
-    // As many of the storeys more as stand, from the lowest up.
-    pub(crate) fn with_standing(mut self, storeys: &[Level]) -> Stack
-        ensures levels { result.levels ≡ self.levels + length (standing self.levels self.top.0 storeys.now) }
-        ensures top { result.top.0 ≡ self.top.0 + height_of (standing self.levels self.top.0 storeys.now) }
-    {
-        for storey in storeys {
-            let Ok(higher) = self.with(storey) else {
-                return self;
-            };
-            self = higher;
-        }
-        self
     }
 }

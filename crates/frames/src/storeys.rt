@@ -1,5 +1,5 @@
 //! The storeys that a topping keeps of its own.
-ghost use Rattle.std.specs.Prelude.{◌≡◌, ◌<◌, ◌≤◌, [], ◌∷◌, ◌++◌, take};
+ghost use Rattle.std.specs.Prelude.{◌≡◌, ◌<◌, ◌≤◌, [], ◌∷◌, ◌++◌, length};
 
 use records::height::StoreyHeight;
 use records::level::Level;
@@ -43,13 +43,19 @@ impl Storeys {
         &self.records[..self.count as usize]
     }
 
-    // Keeps the first so many of them, and puts a level onto those.
-    pub(crate) fn put(&mut self, kept: u32, level: Level)
-        requires within { kept < 8 }
-        requires there { kept ≤ self.old.count }
-        ensures { own_storeys self.new ≡ take kept (own_storeys self.old) ++ level ∷ [] }
+    // How many there are.
+    pub(crate) fn count(&self) -> u32
+        ensures { result ≡ length (own_storeys self.now) }
     {
-        self.records[kept as usize] = level;
-        self.count = kept + 1;
+        self.count
+    }
+
+    // Puts a level onto them.
+    pub(crate) fn put(&mut self, level: Level)
+        requires { length (own_storeys self.old) < 8 }
+        ensures { own_storeys self.new ≡ own_storeys self.old ++ level ∷ [] }
+    {
+        self.records[self.count as usize] = level;
+        self.count += 1;
     }
 }

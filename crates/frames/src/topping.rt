@@ -1,10 +1,9 @@
 //! A frame with up to eight storeys of its own over another.
-ghost use Rattle.std.specs.Prelude.{◌≡◌, ◌+◌, ◌≤◌, [], ◌∷◌, ◌++◌, length, Ok};
-ghost use Rattle.frames.specs.Levels.{height_of};
+ghost use Rattle.std.specs.Prelude.{◌≡◌, ◌+◌, ◌∷◌, ◌++◌, length};
+ghost use Rattle.frames.specs.Levels.{Sound};
 ghost use Rattle.frames.specs.OwnStoreys.{own_storeys};
 ghost use Rattle.frames.specs.Tables.{Checked};
-ghost use Rattle.frames.specs.Toppings.{topped, own_count, add_denial, Added, Admitted, Placed};
-ghost use Rattle.frames.specs.Stacks.{stacked_sound};
+ghost use Rattle.frames.specs.Additions.{add_denial};
 
 use crate::denial::FrameDenial;
 use crate::frame::Frame;
@@ -16,19 +15,15 @@ use records::limits::MOST_STOREYS;
 
 /// Another frame with storeys on it.
 #[derive(Debug, Drop)]
-pub struct Topping<F> {
+pub struct Topping<F: Frame> {
     below: F,
     own: Storeys,
-}
-
-// Where a level of a topping stands.
-#[derive(Clone, Copy, Debug, PartialEq, Eq)]
-enum Place {
-    Below,
-    Own { storey: u32 },
+    ghost whole: { Sound (F.list below ++ own_storeys own) },
 }
 
 impl<F: Frame> Topping<F> {
+    ghost use Rattle.frames.specs.Toppings.{topped, denial_over, Added};
+
     /// The frame below, with no storey on it as yet.
     pub fn new(below: F) -> Topping<F>
         ensures same { result.below ≡ below }
@@ -45,57 +40,16 @@ impl<F: Frame> Topping<F> {
         ensures answer { Added (F.Frame.list self.old.below) (topped F.Frame.list self.old) (topped F.Frame.list self.new) level result }
         ensures below { self.new.below ≡ self.old.below }
     {
-        let own = self.admit(&level)?;
-        self.put(own, level);
+        self.admit(&level)?;
+        self.own.put(level);
         Ok(())
     }
 
-    // How many of its own storeys stand, where one level more may come onto them.
-    fn admit(&self, level: &Level) -> Result<u32, FrameDenial>
-        ensures { Admitted (F.Frame.list self.now.below) (topped F.Frame.list self.now) level.now result }
+    // Whether one level more may come on top.
+    fn admit(&self, level: &Level) -> Result<(), FrameDenial>
+        ensures { Checked (denial_over (F.Frame.list self.now.below) (topped F.Frame.list self.now) level.now) result }
     {
-        let own = self.standing();
-        judge_added(self.stack(), own, level)?;
-        Ok(own)
-    }
-
-    // Puts a level that was admitted onto those of its own that stand.
-    fn put(&mut self, own: u32, level: Level)
-        requires { Admitted (F.Frame.list self.old.below) (topped F.Frame.list self.old) level (Ok own) }
-        ensures list { topped F.Frame.list self.new ≡ topped F.Frame.list self.old ++ level ∷ [] }
-        ensures more { own_count (F.Frame.list self.old.below) (topped F.Frame.list self.new) ≡ own + 1 }
-        ensures below { self.new.below ≡ self.old.below }
-    {
-        self.own.put(own, level);
-    }
-
-    // How many of its own storeys stand.
-    fn standing(&self) -> u32
-        ensures { length (F.Frame.list self.now.below) + result ≡ length (topped F.Frame.list self.now) }
-    {
-        self.count() - self.below.count()
-    }
-
-    // The frame below, and as many of its own storeys as stand on it.
-    fn stack(&self) -> Stack
-        ensures levels { result.levels ≡ length (topped F.Frame.list self.now) }
-        ensures top { result.top.0 ≡ height_of (topped F.Frame.list self.now) }
-    {
-        Stack::of(&self.below).with_standing(self.own.levels())
-    }
-
-    // Where level k stands, if there is one.
-    fn place(&self, k: u32) -> Option<Place>
-        ensures { Placed (F.Frame.list self.now.below) (own_storeys self.now.own) (topped F.Frame.list self.now) k result }
-    {
-        if k > self.count() {
-            return None;
-        }
-        let base = self.below.count();
-        if k <= base {
-            return Some(Place::Below);
-        }
-        Some(Place::Own { storey: k - base })
+        judge_added(Stack::of(self), self.own.count(), level)
     }
 }
 
@@ -113,18 +67,23 @@ fn judge_added(stack: Stack, own: u32, level: &Level) -> Result<(), FrameDenial>
 }
 
 impl<F: Frame> Frame for Topping<F> {
+    ghost use Rattle.frames.specs.Toppings.{topped};
+    ghost use Rattle.frames.specs.Stacks.{stacked_sound};
+
     ghost list = { topped F.Frame.list };
 
     ghost sound = { λ f. stacked_sound (F.Frame.list f.below) (own_storeys f.own) (F.Frame.sound f.below) };
 
     fn count(&self) -> u32 {
-        self.stack().levels
+        self.below.count() + self.own.count()
     }
 
     fn level(&self, k: u32) -> Option<Level> {
-        match self.place(k)? {
-            Place::Below => self.below.level(k),
-            Place::Own { storey } => level_of(self.own.levels(), storey),
+        let below = self.below.count();
+        if k <= below {
+            self.below.level(k)
+        } else {
+            level_of(self.own.levels(), k - below)
         }
     }
 }

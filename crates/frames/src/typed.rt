@@ -17,7 +17,7 @@ use std::alloc::Global;
 pub struct Typed {
     levels: Vec<Level>,
     heap: Global,
-    ghost ok: { Sound levels.items },
+    pub ghost ok: { Sound levels.items },
 }
 
 impl Typed {

@@ -7,7 +7,8 @@ use Rattle.frames.specs.declared.denial.FrameDenial.{FrameDenial}
 use Rattle.frames.specs.Kits.{kit_denial, kit_list}
 use Rattle.frames.specs.Levels.{height_of}
 use Rattle.frames.specs.Tables.{or_else}
-use Rattle.frames.specs.Toppings.{add_denial, own_count, Added}
+use Rattle.frames.specs.Additions.{add_denial}
+use Rattle.frames.specs.Toppings.{own_count, Added}
 use Rattle.order_frame.specs.Frames.{first_added_denial, frame_denial}
 
 -- the first i levels stand on the base, and the denial is that of the others

@@ -1,7 +1,7 @@
 -- Each denial of a file's frame has its reason.
 use Rattle.std.proofs.Common.{◌≡◌, ℕ, ◌+◌, ◌-◌, ◌*◌, ◌<◌, ◌≤◌, Bool, true, false, cond, not, ltb, leb, ◌⊎◌, List, [], ◌∷◌, ◌++◌, length, take, is_some, Some, None, Ok, Err, Option, Result, sym, refl, ap, ◌∙◌, subst, inl, inr, append_assoc, append-nil, arith, length-append}
 use lib.Seq.{take-append_seam}
-use Rattle.std.proofs.lemmas.Bool.{cond-true, ltb-true, ltb-false, leb-true, leb-false, lt-ltb, and_from}
+use Rattle.std.proofs.lemmas.Bool.{ltb-true, ltb-false, leb-true, leb-false}
 use Rattle.records.specs.declared.kit_numbers.KitNumbers.{KitNumbers}
 use Rattle.records.specs.declared.level.Level.{Level}
 use Rattle.records.specs.Ranges.{level_fits}
@@ -11,24 +11,18 @@ use Rattle.records.specs.declared.failure.Failure.{Failure}
 use Rattle.records.specs.declared.failure.Failure.TheVariants.{Denied, NoMemory}
 use Rattle.frames.specs.Kits.{kit_in_range, kit_denial, kit_list}
 use Rattle.frames.specs.Levels.{Sound, level_at, level_height, height_of}
-use Rattle.frames.specs.Steps.{step_denial, stands}
+use Rattle.frames.specs.Steps.{step_denial}
 use Rattle.frames.specs.Tables.{or_else, denial_from}
 use Rattle.frames.specs.Cases.{one_some, two_some}
 use Rattle.frames.specs.KitLists.{kit_sound, kit_length, ranged}
 use Rattle.frames.specs.Lists.{limits, total_append}
 use Rattle.frames.specs.Places.{at_high}
-use Rattle.frames.specs.Stacks.{stacked_sound}
 use Rattle.frames.proofs.Tables.{laid_sound}
+use Rattle.frames.proofs.Toppings.{sound_more}
 use Rattle.order_frame.specs.declared.frame.OrderFrame.{OrderFrame}
 use Rattle.order_frame.specs.Frames.{frame_levels, first_added_denial, frame_denial}
 use Rattle.order_frame.specs.OrderFrames.{Framed}
 use Rattle.order_frame.specs.Reasons.{FrameBelow, Reason, Reasoned}
-
--- one level more keeps a frame a frame
-sound_more : (base : List Level) (l : Level) → Sound base → length base < 24 → step_denial (length base) (height_of base) l ≡ None → Sound (base ++ l ∷ [])
-sound_more base l s few good =
-    let stood : stands (length base) (height_of base) l ≡ true = and_from _ _ (lt-ltb _ _ few) (ap (λ (o : Option FrameDenial). not (is_some o)) good) in
-    subst (λ (ls : List Level). Sound (base ++ ls)) (cond-true (stands (length base) (height_of base) l) _ [] stood) (stacked_sound base (l ∷ []) s)
 
 -- a level in the middle of a list
 module _ (whole base : List Level) (l : Level) (rest : List Level) (is : whole ≡ base ++ l ∷ rest) where

@@ -6,7 +6,7 @@ use Rattle.frames.specs.declared.denial.FrameDenial.{FrameDenial}
 use Rattle.frames.specs.Kits.{kit_list, kit_denial}
 use Rattle.frames.specs.Levels.{height_of}
 use Rattle.frames.specs.Tables.{or_else, lay_denial}
-use Rattle.frames.specs.Toppings.{add_denial}
+use Rattle.frames.specs.Additions.{add_denial}
 
 -- the levels of the kit, where there is one
 abbrev pub kit_levels : Option KitNumbers → List Level
