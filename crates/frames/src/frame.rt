@@ -37,6 +37,7 @@ pub trait Frame {
         ensures { result ≡ top_of (list self.now) }
     {
         let mut top = LevelHeight::ground();
+        // By number here and below: `levels` wants a sized frame, and these serve a `&dyn Frame` too.
         for k in 1..=self.count() {
             let level = self.level(k).unwrap();
             top = top.above(level.height).unwrap();
