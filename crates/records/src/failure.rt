@@ -7,6 +7,7 @@ use crate::denial::Denial;
 use std::alloc::{AllocError, AllocFailed};
 
 /// What was given is denied, or it is good and there is no memory for it.
+// An enum of its own, since `None` would not say that memory is wanting, and `?` makes either case.
 #[derive(Clone, Copy, Debug, PartialEq, Eq)]
 pub enum Failure<D> {
     Denied(D),
