@@ -1,5 +1,5 @@
 -- A topping whose whole list is sound has all its storeys standing.
-use Rattle.std.proofs.Common.{◌≡◌, ℕ, ◌+◌, ◌<◌, ◌≤◌, true, not, ltb, leb, List, [], ◌∷◌, ◌++◌, length, is_some, None, Option, sym, refl, ap, ◌∙◌, subst, append_assoc, arith, length-append}
+use Rattle.std.proofs.Common.{◌≡◌, ℕ, ◌+◌, ◌-◌, ◌<◌, ◌≤◌, true, not, ltb, leb, List, [], ◌∷◌, ◌++◌, length, is_some, None, Option, sym, refl, ap, ◌∙◌, subst, append_assoc, arith, length-append}
 use Rattle.std.proofs.lemmas.Bool.{and_parts, and_from, cond-true, cond-false, lt-ltb, le-ltb, leb-false, not_from_true}
 use Rattle.records.specs.declared.level.Level.{Level}
 use Rattle.records.specs.Ranges.{level_fits}
@@ -7,10 +7,14 @@ use Rattle.frames.specs.declared.denial.FrameDenial.{FrameDenial}
 use Rattle.frames.specs.declared.denial.FrameDenial.TheVariants.{TooManyLevels}
 use Rattle.frames.specs.Cases.{one_none}
 use Rattle.frames.specs.Stacks.{stacked_sound}
-use Rattle.frames.specs.Levels.{Sound, all_fit, height_of}
+use Rattle.frames.specs.Levels.{Sound, all_fit, height_of, level_at}
 use Rattle.frames.specs.Lists.{limits, total_append}
 use Rattle.frames.specs.Steps.{step_denial, stands, standing, stacked}
-use Rattle.frames.specs.Toppings.{denial_over, own_count}
+use Rattle.frames.specs.declared.frame.Frame.{Ghosts}
+use Rattle.frames.specs.declared.topping.Topping.{Topping}
+use Rattle.frames.specs.OwnStoreys.{own_storeys}
+use Rattle.frames.specs.Places.{at_low, at_high}
+use Rattle.frames.specs.Toppings.{topped, denial_over, own_count}
 
 no_step_denial : (k h : ℕ) (l : Level) → level_fits l ≡ true → h + l.height.0 ≤ 500 → step_denial k h l ≡ None
 no_step_denial k h l fits low = cond-false (not (level_fits l)) _ _ (not_from_true _ fits) ∙ cond-false (ltb 500 (h + l.height.0)) _ _ (le-ltb _ _ low)
@@ -73,3 +77,13 @@ grown ls own l sound good =
       list = list;
       more = omega (arith, ap length list, length-append (stacked ls own) (l ∷ []), count_over ls own sound);
     }
+
+module _ {F : Type 0} {g : Ghosts F} (t : Topping F g) where
+  pub whole_count : length (topped g.list t) ≡ length (g.list t.below) + length (own_storeys t.own)
+  whole_count = count_over (g.list t.below) (own_storeys t.own) t.whole
+
+  pub level_below : (k : ℕ) → k ≤ length (g.list t.below) → level_at (topped g.list t) k ≡ level_at (g.list t.below) k
+  level_below k low = ap (λ (xs : List Level). level_at xs k) (nothing_cut (g.list t.below) (own_storeys t.own) t.whole) ∙ at_low (g.list t.below) (own_storeys t.own) k low
+
+  pub level_own : (k : ℕ) → length (g.list t.below) < k → level_at (topped g.list t) k ≡ level_at (own_storeys t.own) (k - length (g.list t.below))
+  level_own k high = ap (λ (xs : List Level). level_at xs k) (nothing_cut (g.list t.below) (own_storeys t.own) t.whole) ∙ at_high (g.list t.below) (own_storeys t.own) k high

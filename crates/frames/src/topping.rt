@@ -1,5 +1,5 @@
 //! A frame with up to eight storeys of its own over another.
-ghost use Rattle.std.specs.Prelude.{◌≡◌, ◌+◌, ◌∷◌, ◌++◌, length};
+ghost use Rattle.std.specs.Prelude.{◌≡◌, ◌+◌, [], ◌∷◌, ◌++◌, length, None};
 ghost use Rattle.frames.specs.Levels.{Sound};
 ghost use Rattle.frames.specs.OwnStoreys.{own_storeys};
 ghost use Rattle.frames.specs.Tables.{Checked};
@@ -22,7 +22,7 @@ pub struct Topping<F: Frame> {
 }
 
 impl<F: Frame> Topping<F> {
-    ghost use Rattle.frames.specs.Toppings.{topped, denial_over, Added};
+    ghost use Rattle.frames.specs.Toppings.{topped, own_count, denial_over, Added};
 
     /// The frame below, with no storey on it as yet.
     pub fn new(below: F) -> Topping<F>
@@ -41,7 +41,7 @@ impl<F: Frame> Topping<F> {
         ensures below { self.new.below ≡ self.old.below }
     {
         self.admit(&level)?;
-        self.own.put(level);
+        self.put(level);
         Ok(())
     }
 
@@ -50,6 +50,16 @@ impl<F: Frame> Topping<F> {
         ensures { Checked (denial_over (F.Frame.list self.now.below) (topped F.Frame.list self.now) level.now) result }
     {
         judge_added(Stack::of(self), self.own.count(), level)
+    }
+
+    // Puts a level on top that was admitted.
+    fn put(&mut self, level: Level)
+        requires { denial_over (F.Frame.list self.old.below) (topped F.Frame.list self.old) level ≡ None }
+        ensures list { topped F.Frame.list self.new ≡ topped F.Frame.list self.old ++ level ∷ [] }
+        ensures more { own_count (F.Frame.list self.old.below) (topped F.Frame.list self.new) ≡ own_count (F.Frame.list self.old.below) (topped F.Frame.list self.old) + 1 }
+        ensures below { self.new.below ≡ self.old.below }
+    {
+        self.own.put(level);
     }
 }
 
@@ -74,10 +84,12 @@ impl<F: Frame> Frame for Topping<F> {
 
     ghost sound = { λ f. stacked_sound (F.Frame.list f.below) (own_storeys f.own) (F.Frame.sound f.below) };
 
+    #[tactic(auto, using(crate::proofs::Toppings::whole_count))]
     fn count(&self) -> u32 {
         self.below.count() + self.own.count()
     }
 
+    #[tactic(auto, using(crate::proofs::Toppings::level_below, crate::proofs::Toppings::level_own))]
     fn level(&self, k: u32) -> Option<Level> {
         let below = self.below.count();
         if k <= below {

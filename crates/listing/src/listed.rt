@@ -1,10 +1,11 @@
 //! A frame as it is listed: a heading, and a line a level.
 ghost use Rattle.std.specs.Prelude.{◌≡◌, [], length, Some};
-ghost use Rattle.tokens.specs.Text.{joined};
-ghost use Rattle.listing.specs.Listings.{levels_text, row_words};
+ghost use Rattle.tokens.specs.Text.{line_of};
+ghost use Rattle.listing.specs.Listings.{levels_text, row, row_words};
 
 use frames::frame::Frame;
 use records::height::LevelHeight;
+use records::level::Level;
 use std::fmt;
 
 // The levels of this frame, as text.
@@ -21,11 +22,24 @@ struct Row {
     height: LevelHeight,
 }
 
+impl Row {
+    // Level `number` of a frame, at this height over the ground.
+    fn of(number: usize, level: &Level, height: LevelHeight) -> Row
+        ensures { result ≡ row number level.now height }
+    {
+        Row {
+            number,
+            weight: level.weight,
+            height,
+        }
+    }
+}
+
 impl fmt::Display for Row {
-    ghost output = { λ row. Some (joined (row_words row)) };
+    ghost output = { λ row. Some (line_of (row_words row) []) };
 
     fn fmt<W: fmt::Write>(&self, f: &mut fmt::Formatter<W>) -> fmt::Result {
-        write!(f, "{} {} {}", self.number, self.weight, self.height)
+        writeln!(f, "{} {} {}", self.number, self.weight, self.height)
     }
 }
 
@@ -44,12 +58,7 @@ impl<F: Frame> fmt::Display for Listed<'_, F> {
         let mut height = LevelHeight::ground();
         for (below, level) in frame.levels().enumerate() {
             height = height.above(level.height).unwrap();
-            let row = Row {
-                number: below + 1,
-                weight: level.weight,
-                height,
-            };
-            writeln!(f, "{row}")?;
+            write!(f, "{}", Row::of(below + 1, &level, height))?;
         }
         Ok(())
     }
