@@ -37,7 +37,8 @@ pub trait Frame {
         ensures { result ≡ top_of (list self.now) }
     {
         let mut top = LevelHeight::ground();
-        // By number here and below: `levels` wants a sized frame, and these serve a `&dyn Frame` too.
+        // By number here and below: `levels` wants a sized frame, and these serve a `&dyn Frame` too. As a
+        // chain over the numbers, the bound of the sum was not proved.
         for k in 1..=self.count() {
             let level = self.level(k).unwrap();
             top = top.above(level.height).unwrap();

@@ -15,8 +15,8 @@ const BLANK: Level = Level {
     width: 0,
 };
 
-// The first `count` of the records, from the lowest up. The project keeps them in an array in place: a
-// storey is put with no memory asked for.
+// The first `count` of the records, from the lowest up. The project keeps them in an array in place, so
+// that adding a storey never wants memory.
 #[derive(Clone, Copy, Debug)]
 pub(crate) struct Storeys {
     records: [Level; MOST_STOREYS],

@@ -41,11 +41,6 @@ next ls n l rest e =
       left = p.2 ∙ sym (ap (λ (k : ℕ). drop k ls) (add-one n));
     }
 
-pub none_left : (ls : List Level) (n : ℕ) → drop n ls ≡ [] → length ls ≤ n
-none_left [] n e = omega arith
-none_left (x ∷ xs) zero e = cc
-none_left (x ∷ xs) (suc n) e = omega (arith, none_left xs n e)
-
 -- one level's line more
 pub line_more : (ls : List Level) (n below counted : ℕ) (l : Level) (height : LevelHeight) (r : Row) (start : List ℕ) → below ≡ n → counted ≡ n + 1 → level_at ls (n + 1) ≡ Some l → height.0 ≡ level_height ls (n + 1) → r ≡ row (below + 1) l height → (start ++ lines_to ls n) ++ line_of (row_words r) [] ≡ start ++ lines_to ls counted
 line_more ls n below counted l height r start is more at high told =

@@ -20,6 +20,9 @@ pub mod line_numbers;
 mod reader;
 mod record;
 
+/// Of a longer file only so many bytes are read: any that is accepted is shorter.
+pub const BYTE_LIMIT: usize = 8192;
+
 /// Reads a whole order file: its records, or the fault of its first faulty line.
 pub fn read(file: &[u8], heap: Global) -> Result<OrderFile, Failure<Fault>>
     ensures told { ReadAs result (order_file_of file.now) }

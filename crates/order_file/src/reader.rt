@@ -3,6 +3,7 @@ ghost use Rattle.std.specs.Prelude.{◌≡◌, ◌+◌, ◌≤◌, IfOk, take, v
 ghost use Rattle.order_file.specs.File.{byte_limit, kit_section, level_section, load_section, card_section, sections, order_file_of, filed, ReadAs};
 ghost use Rattle.order_file.specs.Sections.{next_line, record_line, record_lines, count_line, section_of_up_to};
 
+use crate::BYTE_LIMIT;
 use crate::contents::OrderFile;
 use crate::record::Record;
 use records::card::Card;
@@ -17,9 +18,6 @@ use tokens::text_line::TextLine;
 
 // How many loads a file may list.
 const MOST_LOADS: u32 = 64;
-
-// Of a longer file only so many bytes are read: any that is accepted is shorter.
-const BYTE_LIMIT: usize = 8192;
 
 // What is left of a file, and the number of the line that comes next.
 #[derive(Clone, Copy)]
@@ -51,11 +49,8 @@ impl<'a> Reader<'a> {
     {
         let missing = Fault::Layout { line: self.line };
         let (line, rest) = TextLine::first_of(self.rest, self.line).ok_or(missing)?;
-        *self = Reader {
-            rest,
-            line: self.line + 1,
-            heap: self.heap,
-        };
+        self.rest = rest;
+        self.line += 1;
         Ok(line)
     }
 

@@ -1,5 +1,5 @@
 -- Levels put on from below, up to the first that is denied.
-use Rattle.std.proofs.Common.{◌≡◌, ℕ, ◌+◌, ◌<◌, ◌≤◌, List, [], ◌∷◌, ◌++◌, length, get_or, take, drop, Some, None, Ok, Err, Option, sym, ap, ◌∙◌, append_assoc, append-nil, arith, length-append, length-take-le, take_all}
+use Rattle.std.proofs.Common.{◌≡◌, ℕ, ◌+◌, ◌<◌, ◌≤◌, List, [], ◌∷◌, ◌++◌, length, get_or, take, drop, Some, None, Ok, Err, Option, sym, ap, ◌∙◌, append_assoc, arith, length-append, length-take-le, take_all}
 use Rattle.std.proofs.lemmas.List.{take_more, at_drop_more, at_drop_all}
 use Rattle.records.specs.declared.kit_numbers.KitNumbers.{KitNumbers}
 use Rattle.records.specs.declared.level.Level.{Level}
@@ -15,12 +15,6 @@ use Rattle.order_frame.specs.Frames.{first_added_denial, frame_denial}
 pub record PutOn (base levels : List Level) (i : ℕ) (whole : List Level) : Type 0 where
   pub list : whole ≡ base ++ take i levels
   pub denial : first_added_denial base 0 levels ≡ first_added_denial whole i (drop i levels)
-
-pub put_none : (base levels whole : List Level) → whole ≡ base → PutOn base levels 0 whole
-put_none base levels whole e = record {
-  list = e ∙ sym (append-nil base);
-  denial = ap (λ (ls : List Level). first_added_denial ls 0 levels) (sym e);
-}
 
 module _ (base levels : List Level) (i : ℕ) (d : Level) (h : i < length levels) (below before : List Level) (same : below ≡ base) (on : PutOn base levels i before) where
   own : own_count below before ≡ i

@@ -1,5 +1,5 @@
 -- A denial is about a record that the file has.
-use Rattle.std.proofs.Common.{◌≡◌, ℕ, ◌+◌, ◌-◌, ◌*◌, ◌<◌, ◌≤◌, ◌&&◌, ltb, leb, List, [], ◌∷◌, ◌++◌, length, get_or, Some, None, Ok, Err, Option, Result, sym, refl, ap, ◌∙◌, subst, inl, inr, arith, length-append}
+use Rattle.std.proofs.Common.{◌≡◌, ℕ, ◌+◌, ◌-◌, ◌*◌, ◌<◌, ◌≤◌, ◌&&◌, ltb, leb, List, [], ◌∷◌, ◌++◌, length, get_or, Some, None, Ok, Option, Result, sym, refl, ap, ◌∙◌, subst, inl, inr, arith, length-append}
 use Rattle.std.specs.Option.{option_map}
 use Rattle.std.proofs.lemmas.Bool.{cond-true, le-leb, ltb-true, and_from}
 use Rattle.records.specs.declared.kit_numbers.KitNumbers.{KitNumbers}
@@ -20,7 +20,6 @@ use Rattle.order_file.specs.Lines.{kit_line, level_line, LinedUp}
 use Rattle.order_frame.specs.declared.refusal.Refusal.{Refusal}
 use Rattle.order_frame.specs.Blame.{HoldsKit, HoldsLevel, HoldsRecord, Blames}
 use Rattle.order_frame.specs.Frames.{kit_levels, first_added_denial, frame_denial}
-use Rattle.order_frame.specs.Outcomes.{framed, judged, outcome}
 use Rattle.order_frame.specs.Refusals.{kit_count, blamed_line, listed_line, found_line, refusal_line, frame_refusal}
 use Rattle.order_frame.proofs.Reasons.{added_some, denied_reason}
 
@@ -159,7 +158,3 @@ blames f bytes d r is lines few denied told =
       denied_reason f.kit f.levels d denied,
       subst (λ (x : Refusal). HoldsRecord f d (refusal_line x) bytes) (sym told) (holds f bytes d lines (located f d few denied)),
     )
-
--- what such a file comes to
-pub denied_outcome : (f : Filed) (bytes : List ℕ) (d : FrameDenial) (r : Refusal) → order_file_of bytes ≡ Ok f → frame_denial f.kit f.levels ≡ Some d → r ≡ frame_refusal f d → outcome bytes ≡ Err r
-denied_outcome f bytes d r is denied told = ap judged is ∙ ap (framed f) denied ∙ ap Err (sym told)

@@ -68,6 +68,7 @@ fn topped(numbers: KitNumbers, levels: &[Level]) -> Result<Topping<Kit>, FrameDe
     Ok(topping)
 }
 
+// An enum, and no `Box<dyn Frame>`: a box wants memory, and on a kit a frame is made without any.
 impl Frame for OrderFrame {
     ghost list = { frame_list };
 

@@ -30,6 +30,7 @@ pub fn open(bytes: &[u8], heap: Global) -> Result<Opened, Failure<Refusal>>
     ensures blame { Blamed result bytes.now }
 {
     let file = read(bytes, heap).map_err(Failure::widen)?;
+    // A match, since the line comes from the file, which a `From` has not.
     match OrderFrame::new(file.kit, &file.levels, heap) {
         Ok(frame) => Ok(Opened { file, frame }),
         Err(Failure::Denied(denial)) => Err(Failure::Denied(refusal_of(&file, denial))),

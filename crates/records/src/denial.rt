@@ -1,7 +1,8 @@
 //! What every refusal tells.
 ghost use Rattle.std.specs.Prelude.{◌≡◌, ℕ};
 
-/// A refusal has a number, by which it is printed, and a place: which level, field or row it is about.
+/// A refusal has a number and a place, by which it is printed: which level, field or row it is about, or 0
+/// where it is about none.
 pub trait Denial {
     ghost numbered: { Self → ℕ };
 

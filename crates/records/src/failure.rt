@@ -34,6 +34,7 @@ impl<D: Denial + Drop> From<D> for Failure<D> {
     }
 }
 
+// Two impls, since a push that fails hands its value back, in an error of its own.
 impl<D: Denial> From<AllocError> for Failure<D> {
     ghost from_gives = { λ _ r. r ≡ NoMemory };
 

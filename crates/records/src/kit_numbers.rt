@@ -14,8 +14,8 @@ pub struct KitNumbers {
     pub floor_weight: u32,
     /// Weight of the last level, in tenths of a tonne.
     pub roof_weight: u32,
-    /// The other five numbers are those of every level. They stand flat, as a level's do: a struct of
-    /// the five would only lengthen the name of each.
+    /// The other five numbers are those of every level.
+    // Flat, as a level's are: a struct of the five would only lengthen the name of each.
     pub height: StoreyHeight,
     pub stiffness: u32,
     pub mass_centre: u32,

@@ -25,6 +25,7 @@ fn more_digits(start: u8, digits: &[u8]) -> Option<u32>
     Some(value)
 }
 
+// The number that some bytes write.
 pub(crate) fn number(bytes: &[u8]) -> Option<u32>
     ensures value { result ≡ number_of bytes.now }
     ensures bound { IfSome result (λ n. n < 10 ^ 9) }

@@ -23,7 +23,8 @@ pub struct Word<'a> {
     pub token: Token<'a>,
 }
 
-// Whether it is KIT, LEVELS, LOADS or CARD, by its first byte and the rest.
+// Whether it is KIT, LEVELS, LOADS or CARD. The project takes section words, signs and digits by slice
+// patterns, first byte and rest.
 fn names_section(word: &[u8]) -> bool
     ensures { result ≡ is_section word.now }
 {
