@@ -1,5 +1,7 @@
 //! Reading from the front, line by line, up to the first fault.
-ghost use Rattle.std.specs.Prelude.{◌≡◌, ◌+◌, ◌≤◌, IfOk, take, vec_items, vec_len, length};
+ghost use Rattle.std.specs.Prelude.{◌≡◌, ◌+◌, ◌≤◌, IfOk, take, vec_items, vec_len, length, true, false, MatchResult};
+ghost use Rattle.tokens.specs.TextLines.{left, none_left, numbered};
+ghost use Rattle.tokens.specs.declared.fault.Fault.TheVariants.{Layout};
 ghost use Rattle.order_file.specs.File.{byte_limit, kit_section, level_section, load_section, card_section, sections, order_file_of, filed, ReadAs};
 ghost use Rattle.order_file.specs.Sections.{next_line, record_line, record_lines, count_line, section_of_up_to};
 
@@ -60,13 +62,8 @@ impl<'a> Reader<'a> {
     {
         let mut line = self.line()?;
         let record = R::read(&mut line)?;
-        if line.is_over() {
-            Ok(record)
-        } else {
-            Err(Fault::Layout {
-                line: line.number(),
-            })
-        }
+        over(&line)?;
+        Ok(record)
     }
 
     // The count on the line that opens the section `name`.
@@ -77,9 +74,7 @@ impl<'a> Reader<'a> {
         let mut line = self.line()?;
         let number = line.number();
         let count = line.heading(name)?;
-        if !line.is_over() {
-            return Err(Fault::Layout { line: number });
-        }
+        over(&line)?;
         if (least..=most).contains(&count) {
             Ok(count)
         } else {
@@ -166,6 +161,19 @@ impl<'a> Reader<'a> {
             levels,
             loads,
             card,
+        })
+    }
+}
+
+// A fault of layout where words are left on the line.
+fn over(line: &TextLine<'_>) -> Result<(), Fault>
+    ensures { MatchResult result (λ _. none_left (left line.now) ≡ true) (λ e. (none_left (left line.now) ≡ false) × (e ≡ Layout (numbered line.now))) }
+{
+    if line.is_over() {
+        Ok(())
+    } else {
+        Err(Fault::Layout {
+            line: line.number(),
         })
     }
 }
