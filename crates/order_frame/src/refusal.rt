@@ -10,6 +10,7 @@ use std::fmt;
 use tokens::fault::Fault;
 
 /// Why an order file has no frame.
+// An enum, and no `Box<dyn Denial>`: a caller can ask which it is, and a box wants memory.
 #[derive(Clone, Copy, Debug, PartialEq, Eq)]
 pub enum Refusal {
     /// The bytes are no order file.

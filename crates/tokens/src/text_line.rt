@@ -46,7 +46,8 @@ impl<'a> TextLine<'a> {
         self.rest.is_none()
     }
 
-    // The next word.
+    // The next word. Here and below a clause says that the number stays the same: an invariant of the
+    // type cannot tell of before and after.
     fn word(&mut self) -> Result<Word<'a>, Fault>
         ensures line { IfOk result (λ w. w.line ≡ numbered self.old) }
         ensures took { Took said result (left self.new) (numbered self.old) (next_word (left self.old)) }
