@@ -11,8 +11,7 @@ use Rattle.frames.proofs.Heights.{raised_within}
 use Rattle.frames.specs.Lists.{limits, total_more, total_within}
 use Rattle.frames.specs.Levels.{Sound, from_bottom, level_at, level_height}
 use Rattle.frames.specs.Walks.{levels_left}
-use Rattle.listing.specs.declared.listed.Row.{Row}
-use Rattle.listing.specs.Listings.{row, row_words, row_line, lines_to}
+use Rattle.listing.specs.Listings.{row_words, row_line, lines_to}
 
 -- as many levels are passed as are counted, up to this height
 pub record Walked {F : Type 0} (list : F → List Level) (ls : List Level) (height : ℕ) (s : Enumerate (Levels F)) : Type 0 where
@@ -42,11 +41,11 @@ next ls n l rest e =
     }
 
 -- one level's line more
-pub line_more : (ls : List Level) (n below counted : ℕ) (l : Level) (height : LevelHeight) (r : Row) (start : List ℕ) → below ≡ n → counted ≡ n + 1 → level_at ls (n + 1) ≡ Some l → height.0 ≡ level_height ls (n + 1) → r ≡ row (below + 1) l height → (start ++ lines_to ls n) ++ line_of (row_words r) [] ≡ start ++ lines_to ls counted
-line_more ls n below counted l height r start is more at high told =
-    let text : ℕ → ℕ → List ℕ = λ k h. line_of (row_words (row (k + 1) l (record { 0 = h }))) [] in
-    let line : line_of (row_words r) [] ≡ row_line (n + 1) (level_height ls (n + 1)) (level_at ls (n + 1)) =
-    ap (λ (x : Row). line_of (row_words x) []) told ∙ ap (λ (k : ℕ). text k height.0) is ∙ ap (text n) high ∙ ap (row_line (n + 1) (level_height ls (n + 1))) (sym at) in
+pub line_more : (ls : List Level) (n below counted : ℕ) (l : Level) (height : ℕ) (start : List ℕ) → below ≡ n → counted ≡ n + 1 → level_at ls (n + 1) ≡ Some l → height ≡ level_height ls (n + 1) → (start ++ lines_to ls n) ++ line_of (row_words (below + 1) l height) [] ≡ start ++ lines_to ls counted
+line_more ls n below counted l height start is more at high =
+    let text : ℕ → ℕ → List ℕ = λ k h. line_of (row_words (k + 1) l h) [] in
+    let line : text below height ≡ row_line (n + 1) (level_height ls (n + 1)) (level_at ls (n + 1)) =
+    ap (λ (k : ℕ). text k height) is ∙ ap (text n) high ∙ ap (row_line (n + 1) (level_height ls (n + 1))) (sym at) in
     append_assoc start (lines_to ls n) _
     ∙ ap (λ (bs : List ℕ). start ++ (lines_to ls n ++ bs)) line
     ∙ ap (λ (k : ℕ). start ++ (lines_to ls n ++ row_line k (level_height ls k) (level_at ls k))) (add-one n)

@@ -1,11 +1,9 @@
 -- The text that lists the levels of an order file, or tells its refusal.
 use Rattle.std.specs.Prelude.{ℕ, zero, suc, List, [], ◌∷◌, ◌++◌, length, Some, None, Ok, Err, codes, decimal, Option, Result}
-use Rattle.records.specs.declared.height.LevelHeight.{LevelHeight}
 use Rattle.records.specs.declared.level.Level.{Level}
 use Rattle.tokens.specs.Text.{line_of}
 use Rattle.frames.specs.Levels.{level_at, level_height, weight_of, height_of}
 use Rattle.order_file.specs.File.{Filed}
-use Rattle.listing.specs.declared.listed.Row.{Row}
 use Rattle.order_frame.specs.declared.refusal.Refusal.{Refusal}
 use Rattle.order_frame.specs.Frames.{frame_levels}
 use Rattle.order_frame.specs.Outcomes.{outcome}
@@ -15,17 +13,13 @@ use Rattle.order_frame.specs.Refusals.{refused_words}
 abbrev pub heading : List Level → List ℕ
 heading ls = line_of (codes "LEVELS" ∷ decimal (length ls) ∷ decimal (weight_of ls) ∷ decimal (height_of ls) ∷ []) []
 
--- level k of a frame, at this height over the ground
-abbrev pub row : ℕ → Level → LevelHeight → Row
-row k l h = record { number = k; weight = l.weight; height = h }
-
 -- level k, its weight, its height H over the ground
-abbrev pub row_words : Row → List (List ℕ)
-row_words r = decimal r.number ∷ decimal r.weight ∷ decimal r.height.0 ∷ []
+abbrev pub row_words : ℕ → Level → ℕ → List (List ℕ)
+row_words k l h = decimal k ∷ decimal l.weight ∷ decimal h ∷ []
 
 abbrev pub row_line : ℕ → ℕ → Option Level → List ℕ
 row_line k h None = []
-row_line k h (Some l) = line_of (row_words (row k l (record { 0 = h }))) []
+row_line k h (Some l) = line_of (row_words k l h) []
 
 -- the lines of levels 1 to k
 abbrev pub lines_to : List Level → ℕ → List ℕ

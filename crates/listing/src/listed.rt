@@ -1,7 +1,7 @@
 //! A frame as it is listed: a heading, and a line a level.
 ghost use Rattle.std.specs.Prelude.{◌≡◌, [], length, Some};
 ghost use Rattle.tokens.specs.Text.{line_of};
-ghost use Rattle.listing.specs.Listings.{levels_text, row, row_words};
+ghost use Rattle.listing.specs.Listings.{levels_text, row_words};
 
 use frames::frame::Frame;
 use records::height::LevelHeight;
@@ -14,32 +14,19 @@ pub(crate) struct Listed<'a, F> {
     pub(crate) frame: &'a F,
 }
 
-// What the line of a level tells.
-#[derive(Clone, Copy)]
-struct Row {
+// Level `number` of a frame, at this height over the ground, as its line tells it.
+#[derive(Clone, Copy, Debug)]
+struct Row<'a> {
     number: usize,
-    weight: u32,
+    level: &'a Level,
     height: LevelHeight,
 }
 
-impl Row {
-    // Level `number` of a frame, at this height over the ground.
-    fn of(number: usize, level: &Level, height: LevelHeight) -> Row
-        ensures { result ≡ row number level.now height }
-    {
-        Row {
-            number,
-            weight: level.weight,
-            height,
-        }
-    }
-}
-
-impl fmt::Display for Row {
-    ghost output = { λ row. Some (line_of (row_words row) []) };
+impl fmt::Display for Row<'_> {
+    ghost output = { λ row. Some (line_of (row_words row.number row.level.now row.height.0) []) };
 
     fn fmt<W: fmt::Write>(&self, f: &mut fmt::Formatter<W>) -> fmt::Result {
-        writeln!(f, "{} {} {}", self.number, self.weight, self.height)
+        writeln!(f, "{} {} {}", self.number, self.level.weight, self.height)
     }
 }
 
@@ -58,7 +45,12 @@ impl<F: Frame> fmt::Display for Listed<'_, F> {
         let mut height = LevelHeight::ground();
         for (below, level) in frame.levels().enumerate() {
             height = height.above(level.height).unwrap();
-            write!(f, "{}", Row::of(below + 1, &level, height))?;
+            let row = Row {
+                number: below + 1,
+                level: &level,
+                height,
+            };
+            write!(f, "{row}")?;
         }
         Ok(())
     }
