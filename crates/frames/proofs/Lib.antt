@@ -1,3 +1,4 @@
+pub mod Counted
 pub mod Heights
 pub mod Passes
 pub mod Tables

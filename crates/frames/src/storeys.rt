@@ -1,19 +1,8 @@
 //! The storeys that a topping keeps of its own.
 ghost use Rattle.std.specs.Prelude.{◌≡◌, ◌<◌, ◌≤◌, [], ◌∷◌, ◌++◌, length};
 
-use records::height::StoreyHeight;
 use records::level::Level;
 use records::limits::MOST_STOREYS;
-
-// What stands at a place that was never written.
-const BLANK: Level = Level {
-    weight: 0,
-    height: StoreyHeight(0),
-    stiffness: 0,
-    mass_centre: 0,
-    torsion_centre: 0,
-    width: 0,
-};
 
 // The first `count` of the records, from the lowest up. The project keeps them in an array in place, so
 // that adding a storey never wants memory.
@@ -31,7 +20,7 @@ impl Storeys {
         ensures { own_storeys result ≡ [] }
     {
         Storeys {
-            records: [BLANK; MOST_STOREYS],
+            records: [Level::default(); MOST_STOREYS],
             count: 0,
         }
     }

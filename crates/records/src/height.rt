@@ -5,12 +5,12 @@ ghost use Rattle.records.specs.Heights.{ground, raised};
 use std::fmt;
 
 /// The height h of one storey, from the level below to its own.
-#[derive(Clone, Copy, Debug, PartialEq, Eq)]
+#[derive(Clone, Copy, Debug, Default, PartialEq, Eq)]
 pub struct StoreyHeight(pub u32);
 
 /// The height H of a level over the ground: the sum of the storey heights up to it.
 /// Only that running sum makes one.
-#[derive(Clone, Copy, Debug, PartialEq, Eq)]
+#[derive(Clone, Copy, Debug, Default, PartialEq, Eq)]
 pub struct LevelHeight(u32);
 
 impl LevelHeight {

@@ -5,7 +5,7 @@ ghost use Rattle.records.specs.Ranges.{level_fits};
 use crate::height::StoreyHeight;
 
 /// Level k with storey k, which stands under it.
-#[derive(Clone, Copy, Debug, PartialEq, Eq)]
+#[derive(Clone, Copy, Debug, Default, PartialEq, Eq)]
 pub struct Level {
     /// Weight in tenths of a tonne.
     pub weight: u32,

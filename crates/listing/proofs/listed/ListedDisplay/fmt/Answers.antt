@@ -5,7 +5,8 @@ use Rattle.std.specs.Iterator.Adapters.{enumerate_count}
 use Rattle.records.specs.declared.height.LevelHeight.{LevelHeight}
 use Rattle.frames.specs.Lists.{limits}
 use Rattle.listing.specs.Listings.{heading}
-use Rattle.listing.proofs.Walks.{next, line_more, risen}
+use Rattle.frames.proofs.Counted.{next, risen}
+use Rattle.listing.proofs.Lines.{line_more}
 use Rattle.listing.proofs.listed.ListedDisplay.fmt.Goals as goal
 
 pub unwrap-height-requires : goal.unwrap-height-requires

@@ -2,7 +2,7 @@ use Rattle.std.proofs.Common.{◌++◌}
 use Rattle.std.specs.Fmt.{HasWritten, IsPlainFormatter}
 use Rattle.std.specs.Iterator.Adapters.{enumerate_count}
 use Rattle.listing.specs.Listings.{heading, lines_to}
-use Rattle.listing.proofs.Walks.{Walked}
+use Rattle.frames.proofs.Counted.{Walked}
 use Rattle.listing.proofs.listed.ListedDisplay.fmt.Given as goal
 
 abbrev pub invariant-loop-below : goal.invariant-loop-below

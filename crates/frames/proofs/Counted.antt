@@ -1,17 +1,15 @@
--- How far a listing has come.
-use Rattle.std.proofs.Common.{◌≡◌, ℕ, zero, suc, ◌+◌, ◌≤◌, List, [], ◌∷◌, ◌++◌, length, drop, Some, sym, ap, ◌∙◌, append_assoc, add-one, arith}
+-- A walk over a frame's levels that counts them.
+use Rattle.std.proofs.Common.{◌≡◌, ℕ, zero, suc, ◌+◌, ◌≤◌, List, [], ◌∷◌, length, drop, Some, sym, ap, ◌∙◌, add-one, arith}
 use Rattle.std.specs.declared.iter.Enumerate.{Enumerate}
 use Rattle.std.specs.Iterator.Adapters.{enumerate_source, enumerate_count}
 use Rattle.records.specs.declared.height.LevelHeight.{LevelHeight}
 use Rattle.records.specs.declared.level.Level.{Level}
-use Rattle.tokens.specs.Text.{line_of}
-use Rattle.frames.specs.declared.levels.Levels.{Levels}
 use Rattle.records.specs.Heights.{raised}
-use Rattle.frames.proofs.Heights.{raised_within}
-use Rattle.frames.specs.Lists.{limits, total_more, total_within}
+use Rattle.frames.specs.declared.levels.Levels.{Levels}
 use Rattle.frames.specs.Levels.{Sound, from_bottom, level_at, level_height}
+use Rattle.frames.specs.Lists.{limits, total_more, total_within}
 use Rattle.frames.specs.Walks.{levels_left}
-use Rattle.listing.specs.Listings.{row_words, row_line, lines_to}
+use Rattle.frames.proofs.Heights.{raised_within}
 
 -- as many levels are passed as are counted, up to this height
 pub record Walked {F : Type 0} (list : F → List Level) (ls : List Level) (height : ℕ) (s : Enumerate (Levels F)) : Type 0 where
@@ -39,17 +37,6 @@ next ls n l rest e =
       at = ap (level_at ls) (add-one n) ∙ p.1;
       left = p.2 ∙ sym (ap (λ (k : ℕ). drop k ls) (add-one n));
     }
-
--- one level's line more
-pub line_more : (ls : List Level) (n below counted : ℕ) (l : Level) (height : ℕ) (start : List ℕ) → below ≡ n → counted ≡ n + 1 → level_at ls (n + 1) ≡ Some l → height ≡ level_height ls (n + 1) → (start ++ lines_to ls n) ++ line_of (row_words (below + 1) l height) [] ≡ start ++ lines_to ls counted
-line_more ls n below counted l height start is more at high =
-    let text : ℕ → ℕ → List ℕ = λ k h. line_of (row_words (k + 1) l h) [] in
-    let line : text below height ≡ row_line (n + 1) (level_height ls (n + 1)) (level_at ls (n + 1)) =
-    ap (λ (k : ℕ). text k height) is ∙ ap (text n) high ∙ ap (row_line (n + 1) (level_height ls (n + 1))) (sym at) in
-    append_assoc start (lines_to ls n) _
-    ∙ ap (λ (bs : List ℕ). start ++ (lines_to ls n ++ bs)) line
-    ∙ ap (λ (k : ℕ). start ++ (lines_to ls n ++ row_line k (level_height ls k) (level_at ls k))) (add-one n)
-    ∙ ap (λ (k : ℕ). start ++ lines_to ls k) (sym (add-one n) ∙ sym more)
 
 -- the sum passes no limit within a sound list
 pub risen : (ls : List Level) (n : ℕ) (l : Level) (height : LevelHeight) → Sound ls → level_at ls (n + 1) ≡ Some l → height.0 ≡ level_height ls n → raised height l.height ≡ Some (record { 0 = level_height ls (n + 1) })
