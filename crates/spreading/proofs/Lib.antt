@@ -1,0 +1,3 @@
+pub mod Ceilings
+pub mod Laws
+pub mod Tails

@@ -1,0 +1,3 @@
+pub mod Ceilings
+pub mod Refusals
+pub mod Spreads
