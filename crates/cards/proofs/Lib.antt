@@ -1,0 +1,4 @@
+pub mod Fields
+pub mod Fits
+pub mod Fractions
+pub mod Shears

@@ -1,0 +1,7 @@
+pub mod Cards
+pub mod Denials
+pub mod Fits
+pub mod Fractions
+pub mod Shears
+pub mod SoundCards
+pub mod Wholes
