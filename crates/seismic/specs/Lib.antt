@@ -1,0 +1,13 @@
+pub mod Axes
+pub mod Bounds
+pub mod Denials
+pub mod Figures
+pub mod Laws
+pub mod Limits
+pub mod Responses
+pub mod Refusals
+pub mod Rows
+pub mod Sheets
+pub mod Storeys
+pub mod Verdicts
+pub mod Walks
