@@ -21,6 +21,7 @@ use Rattle.tokens.proofs.Cutting.{lacks, cut_here}
 use Rattle.tokens.proofs.Lays.{Lays, Names}
 use Rattle.order_file.specs.File.{Filed, kit_section, level_section, load_section, card_section, most_levels, sections, and_no_more, order_file_of}
 use Rattle.order_file.specs.First.{Shares}
+use Rattle.order_file.specs.Lines.{card_line}
 use Rattle.order_file.specs.Limits.{KitShort, LevelShort, LoadShort, CardShort, Fits}
 use Rattle.order_file.specs.Records.{read_kit, read_card}
 use Rattle.order_file.specs.Render.{kit_words, level_words, card_words, count_words, lines_of, section_text, render}
@@ -274,71 +275,72 @@ surplus_line : (f : Filed) (p : Place) (e : Fault) → and_no_more f p ≡ Err e
 surplus_line f ([], n) e h = err_ok (sym h)
 surplus_line f (b ∷ bs, n) e h = ap fault_line (sym (err_same h))
 
+pub sections_begun : (bs : List ℕ) (e : Fault) → sections (bs, 1) ≡ Err e → Begun bs e
+sections_begun bs e h1 =
+    or_next (kit_section (bs, 1)) _ e h1
+    (λ bad.
+    let b = kit_begun (bs, 1) e bad in (
+      record { kit = b.0; levels = []; loads = []; card = no_card },
+      record { kit = b.2; levels = tt; level_count = omega arith; loads = tt; load_count = omega arith; card = no_card_fits },
+      b.3 _,
+    ))
+    (λ kit p good1 h2.
+    let a1 = kit_parses.back (bs, 1) kit p good1 in
+    let on1 = kit_on (bs, 1) kit p good1 in
+    or_next (level_section kit p) _ e h2
+    (λ bad.
+    let b = section_begun level_lays (λ x. omega arith) no_level no_level_fits levels_name (most_levels kit) (omega (arith, most_few kit)) p e bad in
+    let low = b.1 in (
+      record { kit = kit; levels = b.0; loads = []; card = no_card },
+      record { kit = a1.2.1; levels = b.3; level_count = b.2; loads = tt; load_count = omega arith; card = no_card_fits },
+      same_shares _ (let z : suc (length (option_to_list kit) + (fault_line e - p.1)) ≡ fault_line e - 1 = omega arith in z) a1.1 (past_kit kit (fault_line e - p.1) p.0 _ a1.2.1 (b.4 _)),
+    ))
+    (λ levels q good2 h3.
+    let a2 = (section_parses level_lays (λ x. omega arith) levels_name (most_levels kit) (omega (arith, most_few kit))).back p levels q good2 in
+    let on2 = section_on level_lays (λ x. omega arith) levels_name (most_levels kit) p levels q good2 in
+    let few2 : length levels ≤ 64 = omega (arith, a2.2.0.1, most_few kit) in
+    or_next (load_section q) _ e h3
+    (λ bad.
+    let b = section_begun load_lays (λ x. omega arith) no_load no_load_fits loads_name 64 (omega arith) q e bad in
+    let low = b.1 in (
+      record { kit = kit; levels = levels; loads = b.0; card = no_card },
+      record { kit = a1.2.1; levels = a2.2.1; level_count = a2.2.0.1; loads = b.3; load_count = b.2; card = no_card_fits },
+      same_shares _ (let z : suc (length (option_to_list kit) + suc (length levels + (fault_line e - q.1))) ≡ fault_line e - 1 = omega arith in z) (a1.1 ∙ ap (section_text (codes "KIT") kit_words (option_to_list kit)) a2.1)
+          (past_kit kit _ _ _ a1.2.1 (past_section level_lays (λ x. omega arith) levels_name levels (fault_line e - q.1) q.0 _ few2 a2.2.1 (b.4 _))),
+    ))
+    (λ loads r good3 h4.
+    let a3 = (section_parses load_lays (λ x. omega arith) loads_name 64 (omega arith)).back q loads r good3 in
+    let on3 = section_on load_lays (λ x. omega arith) loads_name 64 q loads r good3 in
+    or_next (card_section r) _ e h4
+    (λ bad.
+    let b = card_begun r e bad in
+    let low = b.0 in (
+      record { kit = kit; levels = levels; loads = loads; card = no_card },
+      record { kit = a1.2.1; levels = a2.2.1; level_count = a2.2.0.1; loads = a3.2.1; load_count = a3.2.0.1; card = no_card_fits },
+      same_shares _ (let z : suc (length (option_to_list kit) + suc (length levels + suc (length loads + (fault_line e - r.1)))) ≡ fault_line e - 1 = omega arith in z) (a1.1 ∙ ap (section_text (codes "KIT") kit_words (option_to_list kit)) (a2.1 ∙ ap (section_text (codes "LEVELS") level_words levels) a3.1))
+          (past_kit kit _ _ _ a1.2.1 (past_section level_lays (λ x. omega arith) levels_name levels _ _ _ few2 a2.2.1 (past_section load_lays (λ x. omega arith) loads_name loads (fault_line e - r.1) r.0 _ a3.2.0.1 a3.2.1 (b.1 [])))),
+    ))
+    (λ card s fine h5. err_ok (sym h5)))))
+
+-- the line that comes after the sections
+pub sections_on : (bs : List ℕ) (f : Filed) (s : Place) → sections (bs, 1) ≡ Ok (f, s) → s.1 ≡ card_line f + 1
+sections_on bs f s good =
+    and_next (kit_section (bs, 1)) _ _ good (λ kit p e1 h1.
+    and_next (level_section kit p) _ _ h1 (λ levels q e2 h2.
+    and_next (load_section q) _ _ h2 (λ loads r e3 h3.
+    and_next (card_section r) _ _ h3 (λ card t e4 h4.
+    subst (λ (x : Filed × Place). x.1.1 ≡ card_line x.0 + 1) (ok_same h4)
+    (omega (arith, kit_on (bs, 1) kit p e1, section_on level_lays (λ x. omega arith) levels_name (most_levels kit) p levels q e2, section_on load_lays (λ x. omega arith) loads_name 64 q loads r e3, card_on r card t e4))))))
+
 pub file_begun : (bs : List ℕ) (e : Fault) → order_file_of bs ≡ Err e → Begun bs e
-file_begun bs e h = or_next (sections (bs, 1)) and_no_more e h in_sections after_them
+file_begun bs e h = or_next (sections (bs, 1)) and_no_more e h (sections_begun bs e) after_them
   where
-    in_sections : sections (bs, 1) ≡ Err e → Begun bs e
-    in_sections h1 =
-        or_next (kit_section (bs, 1)) _ e h1
-        (λ bad.
-        let b = kit_begun (bs, 1) e bad in (
-          record { kit = b.0; levels = []; loads = []; card = no_card },
-          record { kit = b.2; levels = tt; level_count = omega arith; loads = tt; load_count = omega arith; card = no_card_fits },
-          b.3 _,
-        ))
-        (λ kit p good1 h2.
-        let a1 = kit_parses.back (bs, 1) kit p good1 in
-        let on1 = kit_on (bs, 1) kit p good1 in
-        or_next (level_section kit p) _ e h2
-        (λ bad.
-        let b = section_begun level_lays (λ x. omega arith) no_level no_level_fits levels_name (most_levels kit) (omega (arith, most_few kit)) p e bad in
-        let low = b.1 in (
-          record { kit = kit; levels = b.0; loads = []; card = no_card },
-          record { kit = a1.2.1; levels = b.3; level_count = b.2; loads = tt; load_count = omega arith; card = no_card_fits },
-          same_shares _ (let z : suc (length (option_to_list kit) + (fault_line e - p.1)) ≡ fault_line e - 1 = omega arith in z) a1.1 (past_kit kit (fault_line e - p.1) p.0 _ a1.2.1 (b.4 _)),
-        ))
-        (λ levels q good2 h3.
-        let a2 = (section_parses level_lays (λ x. omega arith) levels_name (most_levels kit) (omega (arith, most_few kit))).back p levels q good2 in
-        let on2 = section_on level_lays (λ x. omega arith) levels_name (most_levels kit) p levels q good2 in
-        let few2 : length levels ≤ 64 = omega (arith, a2.2.0.1, most_few kit) in
-        or_next (load_section q) _ e h3
-        (λ bad.
-        let b = section_begun load_lays (λ x. omega arith) no_load no_load_fits loads_name 64 (omega arith) q e bad in
-        let low = b.1 in (
-          record { kit = kit; levels = levels; loads = b.0; card = no_card },
-          record { kit = a1.2.1; levels = a2.2.1; level_count = a2.2.0.1; loads = b.3; load_count = b.2; card = no_card_fits },
-          same_shares _ (let z : suc (length (option_to_list kit) + suc (length levels + (fault_line e - q.1))) ≡ fault_line e - 1 = omega arith in z) (a1.1 ∙ ap (section_text (codes "KIT") kit_words (option_to_list kit)) a2.1)
-              (past_kit kit _ _ _ a1.2.1 (past_section level_lays (λ x. omega arith) levels_name levels (fault_line e - q.1) q.0 _ few2 a2.2.1 (b.4 _))),
-        ))
-        (λ loads r good3 h4.
-        let a3 = (section_parses load_lays (λ x. omega arith) loads_name 64 (omega arith)).back q loads r good3 in
-        let on3 = section_on load_lays (λ x. omega arith) loads_name 64 q loads r good3 in
-        or_next (card_section r) _ e h4
-        (λ bad.
-        let b = card_begun r e bad in
-        let low = b.0 in (
-          record { kit = kit; levels = levels; loads = loads; card = no_card },
-          record { kit = a1.2.1; levels = a2.2.1; level_count = a2.2.0.1; loads = a3.2.1; load_count = a3.2.0.1; card = no_card_fits },
-          same_shares _ (let z : suc (length (option_to_list kit) + suc (length levels + suc (length loads + (fault_line e - r.1)))) ≡ fault_line e - 1 = omega arith in z) (a1.1 ∙ ap (section_text (codes "KIT") kit_words (option_to_list kit)) (a2.1 ∙ ap (section_text (codes "LEVELS") level_words levels) a3.1))
-              (past_kit kit _ _ _ a1.2.1 (past_section level_lays (λ x. omega arith) levels_name levels _ _ _ few2 a2.2.1 (past_section load_lays (λ x. omega arith) loads_name loads (fault_line e - r.1) r.0 _ a3.2.0.1 a3.2.1 (b.1 [])))),
-        ))
-        (λ card s fine h5. err_ok (sym h5)))))
-
-    all_on : (f : Filed) (s : Place) → sections (bs, 1) ≡ Ok (f, s) → s.1 ≡ 1 + total f
-    all_on f s good =
-        and_next (kit_section (bs, 1)) _ _ good (λ kit p e1 h1.
-        and_next (level_section kit p) _ _ h1 (λ levels q e2 h2.
-        and_next (load_section q) _ _ h2 (λ loads r e3 h3.
-        and_next (card_section r) _ _ h3 (λ card t e4 h4.
-        subst (λ (x : Filed × Place). x.1.1 ≡ 1 + total x.0) (ok_same h4)
-        (omega (arith, kit_on (bs, 1) kit p e1, section_on level_lays (λ x. omega arith) levels_name (most_levels kit) p levels q e2, section_on load_lays (λ x. omega arith) loads_name 64 q loads r e3, card_on r card t e4))))))
-
     after_them : (f : Filed) (s : Place) → sections (bs, 1) ≡ Ok (f, s) → and_no_more f s ≡ Err e → Begun bs e
     after_them f s good bad =
         let a = sections_parse.back (bs, 1) f s good in
         let fits = to_fits f a.2 in
         let few : length f.levels ≤ 64 = omega (arith, fits.level_count, most_few f.kit) in
-        let on = all_on f s good in
+        let on = sections_on bs f s good in
         let at = surplus_line f s e bad in (
           f,
           fits,

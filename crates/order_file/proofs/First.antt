@@ -16,7 +16,7 @@ use Rattle.order_file.specs.Records.{read_kit, read_level, read_load, read_card}
 use Rattle.order_file.specs.Render.{render}
 use Rattle.order_file.specs.Sections.{Place, next, numbered_line, to_the_end, laid_out, record_line, record_lines, count_line, section_of_up_to}
 use Rattle.order_file.proofs.Steps.{err_ok, err_same, by_line}
-use Rattle.order_file.proofs.Whole.{file_forth}
+use Rattle.order_file.proofs.Whole.{text, sections_forth, file_forth}
 
 -- what is read from line m on, in two files that share j lines from there
 abbrev Same : {A : Type 0} → ℕ → ℕ → Result (A × Place) Fault → Result (A × Place) Fault → Type 0
@@ -145,3 +145,9 @@ fault_stays e b (Ok (f, (c ∷ cs, n))) g k =
 -- no file that is accepted has the same lines up to the faulty one
 pub first_fault : (bs : List ℕ) (e : Fault) → order_file_of bs ≡ Err e → (f : Filed) → Fits f → Shares (fault_line e) bs (render f) → ⊥
 first_fault bs e bad f fits shared = err_ok (sym (fault_stays e (render f) (sections (bs, 1)) (sections_alike.at (fault_line e) 1 bs (render f) shared) bad) ∙ file_forth f fits)
+
+-- nor any text that begins with one
+pub first_fault_ahead : (bs : List ℕ) (e : Fault) → sections (bs, 1) ≡ Err e → (f : Filed) (rest : List ℕ) → Fits f → Shares (fault_line e) bs (text f rest) → ⊥
+first_fault_ahead bs e bad f rest fits shared =
+    let same = subst (λ o. Same (fault_line e) 1 o (sections (text f rest, 1))) bad (sections_alike.at (fault_line e) 1 bs (text f rest) shared) in
+    err_ok (sym (same.1 (omega arith)) ∙ (sections_forth f rest fits).1)

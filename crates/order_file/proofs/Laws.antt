@@ -1,5 +1,5 @@
 -- What holds of every file that is read as the definition says.
-use Rattle.std.proofs.Common.{ℕ, List, IfOk, Ok, Err, Result, sym, ap, ◌∙◌, subst}
+use Rattle.std.proofs.Common.{ℕ, List, [], IfOk, Ok, Err, Result, sym, ap, ◌∙◌, subst}
 use Rattle.tokens.specs.declared.fault.Fault.{Fault}
 use Rattle.order_file.specs.declared.contents.OrderFile.{OrderFile}
 use Rattle.records.specs.declared.failure.Failure.{Failure}
@@ -19,5 +19,5 @@ exactly (Err (Denied e)) bytes h = record { unwritten = λ f fits is. err_ok (sy
 exactly (Err NoMemory) bytes h = tt
 
 pub standing : (r : Result OrderFile (Failure Fault)) (bytes : List ℕ) → ReadAs r (order_file_of bytes) → IfOk r (λ f. LinedUp (filed f) bytes)
-standing (Ok f) bytes h = let q = file_back bytes (filed f) h in subst (LinedUp (filed f)) (sym q.0) (lined_up (filed f) q.1)
+standing (Ok f) bytes h = let q = file_back bytes (filed f) h in subst (LinedUp (filed f)) (sym q.0) (lined_up (filed f) q.1 [])
 standing (Err e) bytes h = tt

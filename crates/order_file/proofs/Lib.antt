@@ -5,7 +5,9 @@ pub mod Layouts
 pub mod Parses
 pub mod Whole
 pub mod First
-pub mod Front
+pub mod FirstBytes
 pub mod Standing
 pub mod Laws
 pub mod Begun
+pub mod NoSurplus
+pub mod AtFront

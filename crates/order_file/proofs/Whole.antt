@@ -110,5 +110,9 @@ file_back bs f h =
     let z = no_more_back g f p k in
     subst (λ x. (bs ≡ render x) × Fits x) z.1 (a.1 ∙ ap (text g) z.0, to_fits g a.2))
 
+-- the sections are read whatever follows them
+pub sections_forth : (f : Filed) (after : List ℕ) → Fits f → (m : ℕ) × (sections (text f after, 1) ≡ Ok (f, (after, m)))
+sections_forth f after h = sections_parse.forth f after 1 tt (from_fits f h)
+
 pub file_forth : (f : Filed) → Fits f → order_file_of (render f) ≡ Ok f
-file_forth f h = go_on _ (sections_parse.forth f [] 1 tt (from_fits f h)).1
+file_forth f h = go_on _ (sections_forth f [] h).1

@@ -6,4 +6,5 @@ pub mod Render
 pub mod Lines
 pub mod First
 pub mod Exact
+pub mod Front
 pub mod Reading

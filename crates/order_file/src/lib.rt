@@ -6,19 +6,22 @@
 
 ghost use Rattle.std.specs.Prelude.{take, IfOk};
 ghost use Rattle.order_file.specs.Exact.{Exactly};
-ghost use Rattle.order_file.specs.File.{byte_limit, order_file_of, filed, ReadAs};
+ghost use Rattle.order_file.specs.File.{byte_limit, order_file_of, filed, sections, ReadAs};
+ghost use Rattle.order_file.specs.Front.{FrontAs, ExactlyBegun, front_within, FrontWithin};
 ghost use Rattle.order_file.specs.Lines.{LinedUp};
 
 use contents::OrderFile;
-use reader::read_file;
+use front::Front;
+use reader::{front_of, read_file};
 use records::failure::Failure;
 use std::alloc::Global;
 use tokens::fault::Fault;
 
 pub mod contents;
+pub mod front;
 pub mod line_numbers;
 mod reader;
-mod record;
+pub mod record;
 
 /// Of a longer file only so many bytes are read: any that is accepted is shorter.
 pub const BYTE_LIMIT: usize = 8192;
@@ -31,4 +34,15 @@ pub fn read(file: &[u8], heap: Global) -> Result<OrderFile, Failure<Fault>>
     ensures lines { IfOk result (λ f. LinedUp (filed f) file.now) }
 {
     read_file(file, heap)
+}
+
+/// Reads the order file that a text begins with: its records and all that follows its last line, or the fault of its
+/// first faulty line. As of a whole file, only the first bytes are looked at for it, which never shows.
+pub fn read_front(text: &[u8], heap: Global) -> Result<Front<'_>, Failure<Fault>>
+    ensures told { FrontAs result (sections (text.now, 1)) }
+    ensures exact { ExactlyBegun result text.now }
+    ensures front { FrontWithin result (front_within text.now) }
+    ensures lines { IfOk result (λ f. LinedUp (filed f.file) text.now) }
+{
+    front_of(text, heap)
 }

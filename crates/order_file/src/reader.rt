@@ -1,13 +1,15 @@
 //! Reading from the front, line by line, up to the first fault.
-ghost use Rattle.std.specs.Prelude.{◌≡◌, ◌+◌, ◌≤◌, IfOk, take, vec_items, vec_len, length, true, false, MatchResult};
+ghost use Rattle.std.specs.Prelude.{◌≡◌, ◌+◌, ◌≤◌, IfOk, take, vec_items, vec_len, length, min, true, false, MatchResult};
 ghost use Rattle.tokens.specs.TextLines.{left, none_left, numbered};
 ghost use Rattle.tokens.specs.declared.fault.Fault.TheVariants.{Layout};
 ghost use Rattle.order_file.specs.File.{byte_limit, kit_section, level_section, load_section, card_section, sections, order_file_of, filed, ReadAs};
+ghost use Rattle.order_file.specs.Front.{rest_after, front_within, FrontWithin};
 ghost use Rattle.order_file.specs.Sections.{next_line, record_line, record_lines, count_line, section_of_up_to};
 
-use crate::BYTE_LIMIT;
 use crate::contents::OrderFile;
+use crate::front::Front;
 use crate::record::Record;
+use crate::{BYTE_LIMIT, read_front};
 use records::card::Card;
 use records::failure::Failure;
 use records::kit_numbers::KitNumbers;
@@ -39,7 +41,7 @@ impl<'a> Reader<'a> {
         ensures { place result ≡ (take byte_limit file.now, 1) }
     {
         Reader {
-            rest: &file[..BYTE_LIMIT.min(file.len())],
+            rest: first_bytes(file),
             line: 1,
             heap,
         }
@@ -62,7 +64,7 @@ impl<'a> Reader<'a> {
     {
         let mut line = self.line()?;
         let record = R::read(&mut line)?;
-        over(&line)?;
+        line.end()?;
         Ok(record)
     }
 
@@ -74,7 +76,7 @@ impl<'a> Reader<'a> {
         let mut line = self.line()?;
         let number = line.number();
         let count = line.heading(name)?;
-        over(&line)?;
+        line.end()?;
         if (least..=most).contains(&count) {
             Ok(count)
         } else {
@@ -165,28 +167,42 @@ impl<'a> Reader<'a> {
     }
 }
 
-// A fault of layout where words are left on the line.
-fn over(line: &TextLine<'_>) -> Result<(), Fault>
-    ensures { MatchResult result (λ _. none_left (left line.now) ≡ true) (λ e. (none_left (left line.now) ≡ false) × (e ≡ Layout (numbered line.now))) }
+// The bytes of a text that are looked at for an order file.
+fn first_bytes(text: &[u8]) -> &[u8]
+    ensures bytes { result.now ≡ take byte_limit text.now }
+    ensures count { length result.now ≡ min byte_limit (length text.now) }
 {
-    if line.is_over() {
-        Ok(())
-    } else {
-        Err(Fault::Layout {
-            line: line.number(),
-        })
-    }
+    &text[..BYTE_LIMIT.min(text.len())]
 }
 
-// The sections in their order, and nothing after them.
-pub(crate) fn read_file(file: &[u8], heap: Global) -> Result<OrderFile, Failure<Fault>>
-    ensures { ReadAs result (order_file_of (take byte_limit file.now)) }
+// What follows in a text, where so much is left of its first bytes.
+fn rest_after<'a>(text: &'a [u8], left: &[u8]) -> &'a [u8]
+    requires { length left.now ≤ length (take byte_limit text.now) }
+    ensures { result.now ≡ rest_after text.now left.now }
 {
-    let mut reader = Reader::new(file, heap);
-    let order_file = reader.sections()?;
-    if reader.rest.is_empty() {
-        Ok(order_file)
+    let read = first_bytes(text).len() - left.len();
+    &text[read..]
+}
+
+// The sections in their order, and what follows them.
+pub(crate) fn front_of(text: &[u8], heap: Global) -> Result<Front<'_>, Failure<Fault>>
+    ensures { FrontWithin result (front_within text.now) }
+{
+    let mut reader = Reader::new(text, heap);
+    let file = reader.sections()?;
+    let rest = rest_after(text, reader.rest);
+    Ok(Front { file, rest })
+}
+
+// An order file, and nothing after it.
+pub(crate) fn read_file(file: &[u8], heap: Global) -> Result<OrderFile, Failure<Fault>>
+    ensures { ReadAs result (order_file_of file.now) }
+{
+    let front = read_front(file, heap)?;
+    if front.rest.is_empty() {
+        Ok(front.file)
     } else {
-        Err(Failure::Denied(Fault::Surplus { line: reader.line }))
+        let line = front.file.card_line() + 1;
+        Err(Failure::Denied(Fault::Surplus { line }))
     }
 }

@@ -10,11 +10,12 @@ use records::line::Line;
 use tokens::fault::Fault;
 use tokens::text_line::TextLine;
 
-/// A record, whose fields stand in a line in their order.
-pub(crate) trait Record: Sized {
+/// A record that a line can hold: a kit's numbers, a level, a load or a card, its fields in the order in which the order
+/// file has them.
+pub trait Record: Sized {
     ghost layout: { Left → Option (Self × Left) };
 
-    /// The record that stands next in the line.
+    /// The record whose fields stand next in the line, or a fault of layout; words that follow them stay in the line.
     fn read(line: &mut TextLine<'_>) -> Result<Self, Fault>
         ensures took { Took (λ x. x) result (left line.new) (numbered line.old) (layout (left line.old)) }
         ensures same { numbered line.new ≡ numbered line.old };

@@ -1,10 +1,12 @@
 -- A denial is about a record that the file has.
-use Rattle.std.proofs.Common.{◌≡◌, ℕ, ◌+◌, ◌-◌, ◌*◌, ◌<◌, ◌≤◌, ◌&&◌, ltb, leb, List, [], ◌∷◌, ◌++◌, length, get_or, Some, None, Ok, Option, Result, sym, refl, ap, ◌∙◌, subst, inl, inr, arith, length-append}
+use Rattle.std.proofs.Common.{◌≡◌, ℕ, ◌+◌, ◌-◌, ◌*◌, ◌<◌, ◌≤◌, ◌&&◌, ltb, leb, List, [], ◌∷◌, ◌++◌, length, get_or, Some, None, Ok, Err, Option, Result, sym, refl, ap, ◌∙◌, subst, inl, inr, arith, length-append}
 use Rattle.std.specs.Option.{option_map}
 use Rattle.std.proofs.lemmas.Bool.{cond-true, le-leb, ltb-true, and_from}
 use Rattle.records.specs.declared.kit_numbers.KitNumbers.{KitNumbers}
 use Rattle.records.specs.declared.level.Level.{Level}
 use Rattle.records.specs.Ranges.{level_fits}
+use Rattle.records.specs.declared.failure.Failure.{Failure}
+use Rattle.records.specs.declared.failure.Failure.TheVariants.{Denied, NoMemory}
 use Rattle.tokens.specs.declared.fault.Fault.{Fault}
 use Rattle.frames.specs.declared.denial.FrameDenial.{FrameDenial}
 use Rattle.frames.specs.declared.denial.FrameDenial.TheVariants.{TooManyLevels, OutOfRange, TooHigh, KitOutOfRange, KitTooHigh}
@@ -18,8 +20,10 @@ use Rattle.frames.specs.Places.{at_high, at_inside}
 use Rattle.order_file.specs.File.{Filed, order_file_of}
 use Rattle.order_file.specs.Lines.{kit_line, level_line, LinedUp}
 use Rattle.order_frame.specs.declared.refusal.Refusal.{Refusal}
-use Rattle.order_frame.specs.Blame.{HoldsKit, HoldsLevel, HoldsRecord, Blames}
+use Rattle.order_frame.specs.declared.frame.OrderFrame.{OrderFrame}
+use Rattle.order_frame.specs.Blame.{HoldsKit, HoldsLevel, HoldsRecord, Blames, Blamed, BlamedOn}
 use Rattle.order_frame.specs.Frames.{kit_levels, first_added_denial, frame_denial}
+use Rattle.order_frame.specs.Outcomes.{framed, FrameAs}
 use Rattle.order_frame.specs.Refusals.{kit_count, blamed_line, listed_line, found_line, refusal_line, frame_refusal}
 use Rattle.order_frame.proofs.Reasons.{added_some, denied_reason}
 
@@ -149,12 +153,25 @@ holds f bytes (TooHigh k) lines p = holds_level f bytes k lines p
 holds f bytes KitOutOfRange lines p = holds_kit f bytes lines p
 holds f bytes KitTooHigh lines p = holds_kit f bytes lines p
 
+-- records whose frame is denied
+blames : (f : Filed) (bytes : List ℕ) (d : FrameDenial) (r : Refusal) → LinedUp f bytes → length f.levels ≤ 24 → frame_denial f.kit f.levels ≡ Some d → r ≡ frame_refusal f d → Blames r (Ok f) bytes
+blames f bytes d r lines few denied told = (
+  d,
+  told,
+  denied_reason f.kit f.levels d denied,
+  subst (λ (x : Refusal). HoldsRecord f d (refusal_line x) bytes) (sym told) (holds f bytes d lines (located f d few denied)),
+)
+
+pub blamed_on : (f : Filed) (bytes : List ℕ) (r : Result OrderFrame (Failure Refusal)) → LinedUp f bytes → length f.levels ≤ 24 → FrameAs r f → BlamedOn bytes r f
+blamed_on f bytes (Ok frame) lines few h = tt
+blamed_on f bytes (Err NoMemory) lines few h = tt
+blamed_on f bytes (Err (Denied r)) lines few h = cases (frame_denial f.kit f.levels) refl h
+  where
+    cases : (o : Option FrameDenial) → frame_denial f.kit f.levels ≡ o → framed f o ≡ Err r → Blames r (Ok f) bytes
+    cases None is e = cc
+    cases (Some d) is e = blames f bytes d r lines few is cc
+
 -- a file that is read, and whose frame is denied
-pub blames : (f : Filed) (bytes : List ℕ) (d : FrameDenial) (r : Refusal) → order_file_of bytes ≡ Ok f → LinedUp f bytes → length f.levels ≤ 24 → frame_denial f.kit f.levels ≡ Some d → r ≡ frame_refusal f d → Blames r (order_file_of bytes) bytes
-blames f bytes d r is lines few denied told =
-    subst (λ (o : Result Filed Fault). Blames r o bytes) (sym is) (
-      d,
-      told,
-      denied_reason f.kit f.levels d denied,
-      subst (λ (x : Refusal). HoldsRecord f d (refusal_line x) bytes) (sym told) (holds f bytes d lines (located f d few denied)),
-    )
+pub blamed : (f : Filed) (bytes : List ℕ) (e : Failure Refusal) → order_file_of bytes ≡ Ok f → BlamedOn bytes (Err e) f → Blamed (Err e) bytes
+blamed f bytes (Denied r) is h = subst (λ (o : Result Filed Fault). Blames r o bytes) (sym is) h
+blamed f bytes NoMemory is h = tt

@@ -12,6 +12,7 @@ use Rattle.frames.specs.Levels.{level_at}
 use Rattle.order_file.specs.File.{Filed, order_file_of}
 use Rattle.order_file.specs.Lines.{line_at}
 use Rattle.order_file.specs.Render.{kit_words, level_words}
+use Rattle.order_frame.specs.declared.frame.OrderFrame.{OrderFrame}
 use Rattle.order_frame.specs.declared.opened.Opened.{Opened}
 use Rattle.order_frame.specs.declared.refusal.Refusal.{Refusal}
 use Rattle.order_frame.specs.Frames.{frame_levels}
@@ -44,3 +45,9 @@ abbrev pub Blamed : Result Opened (Failure Refusal) → List ℕ → Type 0
 Blamed (Ok o) bytes = Unit {0}
 Blamed (Err (Denied r)) bytes = Blames r (order_file_of bytes) bytes
 Blamed (Err NoMemory) bytes = Unit {0}
+
+-- the same of a frame that is made from records, in whatever bytes hold them on their lines
+abbrev pub BlamedOn : List ℕ → Result OrderFrame (Failure Refusal) → Filed → Type 0
+BlamedOn bytes (Ok frame) f = Unit {0}
+BlamedOn bytes (Err (Denied r)) f = Blames r (Ok f) bytes
+BlamedOn bytes (Err NoMemory) f = Unit {0}

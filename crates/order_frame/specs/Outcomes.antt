@@ -5,6 +5,7 @@ use Rattle.records.specs.declared.failure.Failure.TheVariants.{Denied, NoMemory}
 use Rattle.tokens.specs.declared.fault.Fault.{Fault}
 use Rattle.frames.specs.declared.denial.FrameDenial.{FrameDenial}
 use Rattle.order_file.specs.File.{Filed, filed, order_file_of}
+use Rattle.order_frame.specs.declared.frame.OrderFrame.{OrderFrame}
 use Rattle.order_frame.specs.declared.opened.Opened.{Opened}
 use Rattle.order_frame.specs.declared.refusal.Refusal.{Refusal}
 use Rattle.order_frame.specs.declared.refusal.Refusal.TheVariants.{Faulty}
@@ -24,6 +25,13 @@ judged (Err e) = Err (Faulty e)
 -- the records of a file whose frame stands, or the refusal
 abbrev pub outcome : List ℕ → Result Filed Refusal
 outcome bytes = judged (order_file_of bytes)
+
+-- the frame of exactly the levels that the records describe, or the refusal; memory is wanting only where nothing is
+-- denied, never on a kit
+abbrev pub FrameAs : Result OrderFrame (Failure Refusal) → Filed → Type 0
+FrameAs (Ok frame) f = (frame_denial f.kit f.levels ≡ None) × (frame_list frame ≡ frame_levels f.kit f.levels)
+FrameAs (Err (Denied r)) f = framed f (frame_denial f.kit f.levels) ≡ Err r
+FrameAs (Err NoMemory) f = (frame_denial f.kit f.levels ≡ None) × (f.kit ≡ None)
 
 -- the records with the frame of their levels, or the refusal; nothing is said where memory is wanting
 abbrev pub OpenedAs : Result Opened (Failure Refusal) → Result Filed Refusal → Type 0

@@ -1,7 +1,8 @@
 //! The words of a line, taken from the front one by one.
-ghost use Rattle.std.specs.Prelude.{◌≡◌, IfSome, IfOk};
+ghost use Rattle.std.specs.Prelude.{◌≡◌, true, false, IfSome, IfOk, MatchResult};
 ghost use Rattle.std.specs.Option.{option_map};
 ghost use Rattle.tokens.specs.Cuts.{cut_at, first_word, later_words};
+ghost use Rattle.tokens.specs.declared.fault.Fault.TheVariants.{Layout};
 ghost use Rattle.tokens.specs.TextLines.{Took, after_word, after_heading, first_line, next_word, next_field, heading_of, said, left, numbered, none_left};
 
 use crate::cut::cut;
@@ -44,6 +45,19 @@ impl<'a> TextLine<'a> {
         ensures { result ≡ none_left (left self.now) }
     {
         self.rest.is_none()
+    }
+
+    /// A fault of layout where words are left.
+    pub fn end(&self) -> Result<(), Fault>
+        ensures { MatchResult result (λ _. none_left (left self.now) ≡ true) (λ e. (none_left (left self.now) ≡ false) × (e ≡ Layout (numbered self.now))) }
+    {
+        if self.is_over() {
+            Ok(())
+        } else {
+            Err(Fault::Layout {
+                line: self.number(),
+            })
+        }
     }
 
     // The next word. Here and below a clause says that the number stays the same: an invariant of the

@@ -18,7 +18,7 @@ use Rattle.order_file.proofs.Steps.{cut_line}
 use Rattle.order_file.proofs.Whole.{kit_name, levels_name, loads_name, card_name, most_few}
 
 -- a part that takes at most b bytes, read from the first k
-abbrev Kept : {A : Type 0} → ℕ → ℕ → Result (A × Place) Fault → Result (A × Place) Fault → Type 0
+abbrev pub Kept : {A : Type 0} → ℕ → ℕ → Result (A × Place) Fault → Result (A × Place) Fault → Type 0
 Kept k b (Err e) o = o ≡ Err e
 Kept k b (Ok p) o = (j : ℕ) × (o ≡ Ok (p.0, (take j p.1.0, p.1.1))) × (k ≤ j + b)
 
@@ -140,5 +140,8 @@ then_no_more k b (Ok (f, (r, n))) d less h = rest r h.0 (omega (arith, h.2)) ∙
     rest [] (suc j) some = refl
     rest (c ∷ cs) (suc j) some = refl
 
+pub sections_front : (bs : List ℕ) → Kept 8192 3394 (sections (bs, 1)) (sections (take 8192 bs, 1))
+sections_front bs = sections_local.at 8192 bs 1 (omega arith)
+
 pub file_front : (bs : List ℕ) → order_file_of bs ≡ order_file_of (take 8192 bs)
-file_front bs = then_no_more 8192 3394 (sections (bs, 1)) (sections (take 8192 bs, 1)) (omega arith) (sections_local.at 8192 bs 1 (omega arith))
+file_front bs = then_no_more 8192 3394 (sections (bs, 1)) (sections (take 8192 bs, 1)) (omega arith) (sections_front bs)
