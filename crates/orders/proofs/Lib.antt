@@ -1,0 +1,4 @@
+pub mod Bearing
+pub mod Judging
+pub mod Raising
+pub mod Sums

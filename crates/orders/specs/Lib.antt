@@ -1,0 +1,6 @@
+pub mod Calls
+pub mod Denials
+pub mod Loads
+pub mod Orders
+pub mod Sound
+pub mod Tables
