@@ -1,0 +1,9 @@
+pub mod Changes
+pub mod Determined
+pub mod Laws
+pub mod Orders
+pub mod Places
+pub mod Progress
+pub mod Tallies
+pub mod Trials
+pub mod Weighing

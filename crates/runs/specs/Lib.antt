@@ -1,0 +1,4 @@
+pub mod Tally
+pub mod Answers
+pub mod Runs
+pub mod States
