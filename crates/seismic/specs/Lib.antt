@@ -1,7 +1,6 @@
 pub mod Axes
 pub mod Bounds
 pub mod Denials
-pub mod Figures
 pub mod Laws
 pub mod Limits
 pub mod Responses

@@ -6,7 +6,6 @@ mod admit;
 pub mod axes;
 pub mod axis;
 pub mod denial;
-pub mod figures;
 mod response;
 pub mod row;
 mod rows;

@@ -1,8 +1,0 @@
-//! Figures worked out by hand, which the definitions give.
-ghost use Rattle.seismic.specs.Figures.{Figures, FurtherFigures};
-
-/// Does nothing: its contract is the list of worked figures, and a second list of what these leave out.
-pub fn figures_stand()
-    ensures sample { Figures }
-    ensures further { FurtherFigures }
-{}
