@@ -1,0 +1,4 @@
+pub mod Days
+pub mod Scripts
+pub mod Transcripts
+pub mod Unruns
