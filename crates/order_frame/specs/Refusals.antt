@@ -26,9 +26,13 @@ abbrev pub refusal_place : Refusal → ℕ
 refusal_place (Faulty e) = fault_place e
 refusal_place (Unframed d line) = denial_place d
 
--- the words that it is printed with
+-- REFUSED, the refusal's number, the line that is to blame, its place: so every refusal of a file is printed
+abbrev pub refusal_words : ℕ → ℕ → ℕ → List (List ℕ)
+refusal_words number line place = codes "REFUSED" ∷ decimal number ∷ decimal line ∷ decimal place ∷ []
+
+-- the words of a refusal of a file or its frame
 abbrev pub refused_words : Refusal → List (List ℕ)
-refused_words r = codes "REFUSED" ∷ decimal (refusal_number r) ∷ decimal (refusal_line r) ∷ decimal (refusal_place r) ∷ []
+refused_words r = refusal_words (refusal_number r) (refusal_line r) (refusal_place r)
 
 -- how many levels stand below the first that the file lists
 abbrev pub kit_count : Option KitNumbers → ℕ

@@ -1,7 +1,7 @@
 //! A refusal as every program prints it.
 ghost use Rattle.std.specs.Prelude.{◌≡◌, Some};
 ghost use Rattle.tokens.specs.Text.{joined};
-ghost use Rattle.order_frame.specs.Refusals.{refusal_number, refusal_line, refusal_place, refused_words};
+ghost use Rattle.order_frame.specs.Refusals.{refusal_number, refusal_line, refusal_place, refusal_words, refused_words};
 ghost use Rattle.order_frame.specs.declared.refusal.Refusal.TheVariants.{Faulty};
 
 use frames::denial::FrameDenial;
@@ -63,12 +63,29 @@ impl fmt::Display for Refusal {
     ghost output = { λ r. Some (joined (refused_words r)) };
 
     fn fmt<W: fmt::Write>(&self, f: &mut fmt::Formatter<W>) -> fmt::Result {
+        let line = self.line();
+        write!(f, "{}", RefusedWords { denial: self, line })
+    }
+}
+
+/// The words of a file's refusal, of whatever kind it is.
+#[derive(Drop)]
+pub struct RefusedWords<'a, D> {
+    pub denial: &'a D,
+    /// The line of the file that is to blame.
+    pub line: u32,
+}
+
+impl<D: Denial> fmt::Display for RefusedWords<'_, D> {
+    ghost output = { λ words. Some (joined (refusal_words (D.numbered words.denial.now) words.line (D.placed words.denial.now))) };
+
+    fn fmt<W: fmt::Write>(&self, f: &mut fmt::Formatter<W>) -> fmt::Result {
         write!(
             f,
             "REFUSED {} {} {}",
-            self.number(),
-            self.line(),
-            self.place()
+            self.denial.number(),
+            self.line,
+            self.denial.place()
         )
     }
 }
