@@ -16,7 +16,7 @@ use Rattle.frames.specs.OwnStoreys.{own_storeys}
 use Rattle.frames.specs.Places.{at_low, at_high}
 use Rattle.frames.specs.Toppings.{topped, denial_over, own_count}
 
-no_step_denial : (k h : ℕ) (l : Level) → level_fits l ≡ true → h + l.height.0 ≤ 500 → step_denial k h l ≡ None
+pub no_step_denial : (k h : ℕ) (l : Level) → level_fits l ≡ true → h + l.height.0 ≤ 500 → step_denial k h l ≡ None
 no_step_denial k h l fits low = cond-false (not (level_fits l)) _ _ (not_from_true _ fits) ∙ cond-false (ltb 500 (h + l.height.0)) _ _ (le-ltb _ _ low)
 
 stands_from : (k h : ℕ) (l : Level) → k < 24 → level_fits l ≡ true → h + l.height.0 ≤ 500 → stands k h l ≡ true
@@ -29,7 +29,7 @@ all_stand k h (l ∷ ls) few low fit =
     cond-true (stands k h l) _ [] (stands_from k h l (omega arith) p.0 (omega arith))
     ∙ ap (λ (xs : List Level). l ∷ xs) (all_stand (k + 1) (h + l.height.0) ls (omega arith) (omega arith) p.1)
 
-fit_over : (ls own : List Level) → all_fit (ls ++ own) ≡ true → all_fit own ≡ true
+pub fit_over : (ls own : List Level) → all_fit (ls ++ own) ≡ true → all_fit own ≡ true
 fit_over [] own fit = fit
 fit_over (l ∷ ls) own fit = fit_over ls own (and_parts (level_fits l) (all_fit (ls ++ own)) fit).1
 

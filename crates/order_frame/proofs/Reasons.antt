@@ -22,7 +22,7 @@ use Rattle.frames.proofs.Toppings.{sound_more}
 use Rattle.order_frame.specs.declared.frame.OrderFrame.{OrderFrame}
 use Rattle.order_frame.specs.Frames.{frame_levels, first_added_denial, frame_denial}
 use Rattle.order_frame.specs.OrderFrames.{Framed}
-use Rattle.order_frame.specs.Reasons.{FrameBelow, Reason, Reasoned}
+use Rattle.order_frame.specs.Reasons.{FrameBelow, KitTaken, room, Reached, Reason, Reasoned}
 
 -- a level in the middle of a list
 module _ (whole base : List Level) (l : Level) (rest : List Level) (is : whole ≡ base ++ l ∷ rest) where
@@ -66,9 +66,9 @@ passed true true a b h k = let z : true ≡ false = k in let y : ◌≡◌ {A = 
 passed false u a b h k = let y : ◌≡◌ {A = ℕ} 0 1 = cc in absurd (omega arith)
 
 -- storeys added onto a kit, from below
-added : (n : KitNumbers) (levels base rest : List Level) (s : ℕ) (d : FrameDenial) → frame_levels (Some n) levels ≡ base ++ rest → Sound base → length base ≡ n.levels + s → s ≤ 8 → first_added_denial base s rest ≡ Some d → Reason (Some n) levels d
-added n levels base [] s d is sound count own e = cc
-added n levels base (l ∷ rest) s d is sound count own e =
+added : (n : KitNumbers) (levels base rest : List Level) (s : ℕ) (d : FrameDenial) → KitTaken (Some n) → frame_levels (Some n) levels ≡ base ++ rest → Sound base → length base ≡ n.levels + s → s ≤ 8 → first_added_denial base s rest ≡ Some d → Reason (Some n) levels d
+added n levels base [] s d taken is sound count own e = cc
+added n levels base (l ∷ rest) s d taken is sound count own e =
     let whole = frame_levels (Some n) levels in
     let k = length base + 1 in
     let below : FrameBelow whole k = subst Sound (sym (below_here whole base l rest is)) sound in
@@ -76,14 +76,16 @@ added n levels base (l ∷ rest) s d is sound count own e =
     let within : k ≤ length whole = omega (arith, ap length is, length-append base (l ∷ rest)) in
     let few = (limits base sound).few in
     elim (added_some (leb 24 (length base)) (leb 8 s) (TooManyLevels k) (TooManyLevels k) d (step_denial (length base) (height_of base) l) _ e) [
-      | inl (t, same) ↦ subst (Reason (Some n) levels) same (below, within, inl (omega (arith, leb-true _ _ t)))
-      | inr (inl (t, u, same)) ↦ subst (Reason (Some n) levels) same (below, within, inr (omega (arith, leb-true _ _ u)))
+      | inl (t, same) ↦ subst (Reason (Some n) levels) same (taken, (omega (arith, few, count, own, leb-true _ _ t), within, below))
+      | inr (inl (t, u, same)) ↦ subst (Reason (Some n) levels) same (taken, (omega (arith, count, own, leb-false _ _ t, leb-true _ _ u), within, below))
       | inr (inr (t, u, more)) ↦
+          let has : k ≤ room (Some n) = omega (arith, count, leb-false _ _ t, leb-false _ _ u) in
+          let reached : Reached (Some n) levels k = (taken, has, below) in
           elim (two_some (level_fits l) (ltb 500 (height_of base + l.height.0)) (OutOfRange k) (TooHigh k) d _ more) [
-            | inl (f, same) ↦ subst (Reason (Some n) levels) same (below, (l, here, f))
-            | inr (inl (f, h, same)) ↦ subst (Reason (Some n) levels) same (below, (l, here, f), omega (arith, ltb-true _ _ h, height_here whole base l rest is))
+            | inl (f, same) ↦ subst (Reason (Some n) levels) same (reached, (l, here, f))
+            | inr (inl (f, h, same)) ↦ subst (Reason (Some n) levels) same (reached, (l, here, f), omega (arith, ltb-true _ _ h, height_here whole base l rest is))
             | inr (inr (f, h, later)) ↦
-                added n levels (base ++ l ∷ []) rest (s + 1) d (after_here whole base l rest is)
+                added n levels (base ++ l ∷ []) rest (s + 1) d taken (after_here whole base l rest is)
                 (sound_more base l sound (leb-false _ _ t) (passed _ _ _ _ f h))
                 (omega (arith, length-append base (l ∷ []))) (omega (arith, leb-false _ _ u)) later
           ]
@@ -103,13 +105,14 @@ scanned levels base (l ∷ rest) d is sound few e =
     let k = length base + 1 in
     let below : FrameBelow levels k = subst Sound (sym (below_here levels base l rest is)) sound in
     let here = level_here levels base l rest is in
-    let room : length base < 24 = omega (arith, ap length is, length-append base (l ∷ rest)) in
+    let reached : Reached None levels k = (tt, few, below) in
+    let fits : length base < 24 = omega (arith, ap length is, length-append base (l ∷ rest)) in
     elim (two_some (level_fits l) (ltb 500 (height_of base + l.height.0)) (OutOfRange k) (TooHigh k) d _ e) [
-      | inl (f, same) ↦ subst (Reason None levels) same (below, (l, here, f))
-      | inr (inl (f, h, same)) ↦ subst (Reason None levels) same (below, (l, here, f), omega (arith, ltb-true _ _ h, height_here levels base l rest is))
+      | inl (f, same) ↦ subst (Reason None levels) same (reached, (l, here, f))
+      | inr (inl (f, h, same)) ↦ subst (Reason None levels) same (reached, (l, here, f), omega (arith, ltb-true _ _ h, height_here levels base l rest is))
       | inr (inr (f, h, later)) ↦
           scanned levels (base ++ l ∷ []) rest d (after_here levels base l rest is)
-          (sound_more base l sound room (passed _ _ _ _ f h)) few
+          (sound_more base l sound fits (passed _ _ _ _ f h)) few
           (ap (λ (x : ℕ). denial_from x (height_of (base ++ l ∷ [])) rest) (let c : length (base ++ l ∷ []) ≡ k = omega (arith, length-append base (l ∷ [])) in c)
           ∙ ap (λ (x : ℕ). denial_from k x rest) (let c : height_of (base ++ l ∷ []) ≡ height_of base + l.height.0 = omega (arith, total_append (λ (x : Level). x.height.0) base (l ∷ [])) in c)
           ∙ later)
@@ -131,7 +134,7 @@ good_sound (Some n) levels e =
 pub denied_reason : (kit : Option KitNumbers) (levels : List Level) (d : FrameDenial) → frame_denial kit levels ≡ Some d → Reason kit levels d
 denied_reason None levels d e =
     elim (one_some (ltb 24 (length levels)) (TooManyLevels 25) d _ e) [
-      | inl (t, same) ↦ subst (Reason None levels) same (refl, ltb-true _ _ t)
+      | inl (t, same) ↦ subst (Reason None levels) same (tt, (refl, ltb-true _ _ t))
       | inr (t, more) ↦ scanned levels [] levels d refl refl (ltb-false _ _ t) more
     ]
 denied_reason (Some n) levels d e =
@@ -139,7 +142,7 @@ denied_reason (Some n) levels d e =
       | inl (f, same) ↦ subst (Reason (Some n) levels) same (n, refl, f)
       | inr (inl (f, h, same)) ↦ subst (Reason (Some n) levels) same (n, refl, f, ltb-true _ _ h)
       | inr (inr (f, h, more)) ↦
-          added n levels (kit_list n) levels 0 d refl (kit_sound n (kit_good n (passed _ _ _ _ f h)))
+          added n levels (kit_list n) levels 0 d (f, ltb-false _ _ h) refl (kit_sound n (kit_good n (passed _ _ _ _ f h)))
           (kit_length n (ranged n f).some ∙ (let z : n.levels ≡ n.levels + 0 = omega arith in z)) (omega arith) more
     ]
 

@@ -1,7 +1,7 @@
 //! The frame that the records of an order file describe.
 ghost use Rattle.std.specs.Prelude.{◌≡◌};
 ghost use Rattle.order_frame.specs.OrderFrames.{frame_list, Framed, ToppedBy};
-ghost use Rattle.order_frame.specs.Reasons.{Reasoned};
+ghost use Rattle.order_frame.specs.Reasons.{Reasoned, ReasonTold};
 ghost use Rattle.frames.specs.KitFrames.{made_list};
 ghost use Rattle.frames.specs.OwnStoreys.{own_storeys};
 ghost use Rattle.frames.specs.KitLists.{kit_sound};
@@ -34,6 +34,7 @@ impl OrderFrame {
     ) -> Result<OrderFrame, Failure<FrameDenial>>
         ensures frame { Framed kit levels.now result }
         ensures reason { Reasoned kit levels.now result }
+        ensures only { ReasonTold kit levels.now result }
     {
         make(kit, levels, heap)
     }
