@@ -11,3 +11,4 @@ pub mod Laws
 pub mod Begun
 pub mod NoSurplus
 pub mod AtFront
+pub mod Lengths

@@ -17,11 +17,11 @@ centred l fits = grind (arith, nat_tests)
 moment_most : (s : Storey) → IsBounded s → moment s ≤ 12000000000
 moment_most s b = mul-le-mul b.force (centred s.level b.fits)
 
-weight_most : (s : Storey) → IsBounded s → weight s ≤ 5000
+pub weight_most : (s : Storey) → IsBounded s → weight s ≤ 5000
 weight_most s b = let fits = b.fits in grind (arith, nat_tests)
 
 -- a sum over storeys, by what each brings at most
-sum_most :
+pub sum_most :
     (f : Storey → ℕ) (most : ℕ) → ((s : Storey) → IsBounded s → f s ≤ most) → (ss : List Storey) → AreBounded ss
     → sum_by f ss ≤ length ss * most
 sum_most f most each ss b = sum_by-le f most ss (All-weaker IsBounded (λ (s : Storey). f s ≤ most) each ss (All-from_recursion IsBounded ss b.each))

@@ -10,6 +10,7 @@ pub mod Places
 pub mod RowLaws
 pub mod RowPlaces
 pub mod Shares
+pub mod SheetBounds
 pub mod SheetDenials
 pub mod Spreadable
 pub mod Standing

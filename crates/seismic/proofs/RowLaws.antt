@@ -24,7 +24,7 @@ fit_at (x ∷ ls) zero l fit e = let same : x ≡ l = cc in subst (λ (y : Level
 fit_at (x ∷ ls) (suc i) l fit e = fit_at ls i l (and_parts (level_fits x) _ fit).1 e
 
 -- so no storey's stiffness is 0
-stiff : (l : Level) → level_fits l ≡ true → 0 < l.stiffness
+pub stiff : (l : Level) → level_fits l ≡ true → 0 < l.stiffness
 stiff l fits =
     let p = and_parts (height_fits l.height) _ (and_parts (weight_fits l.weight) _ fits).1 in
     omega (arith, leb-true 1 l.stiffness (and_parts _ _ (and_parts (stiffness_fits l.stiffness) _ p.1).0).0)

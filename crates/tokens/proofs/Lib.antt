@@ -5,3 +5,4 @@ pub mod Cutting
 pub mod Words
 pub mod Laws
 pub mod Lays
+pub mod Lengths
