@@ -40,8 +40,12 @@ abbrev pub IsAbove : ℕ → Option ℕ → Type 0
 IsAbove tb None = ⊥
 IsAbove tb (Some t) = tb < t
 
+-- nothing is wrong with a card: each field fits, and no known period is above Tb
+abbrev pub GoodCard : Card → Type 0
+GoodCard card = AllFit card × ¬ IsAbove card.tb card.period
+
 -- what each answer says of the card
 abbrev pub CheckedWhen : Card → Result SoundCard CardDenial → Type 0
-CheckedWhen card (Ok sound) = AllFit card × (¬ IsAbove card.tb card.period)
+CheckedWhen card (Ok sound) = GoodCard card
 CheckedWhen card (Err (OutOfRange k)) = IsFirstUnfit card k
 CheckedWhen card (Err PeriodAboveTb) = AllFit card × IsAbove card.tb card.period

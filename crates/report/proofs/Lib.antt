@@ -1,0 +1,11 @@
+pub mod AsRun
+pub mod Booking
+pub mod Carding
+pub mod Exactly
+pub mod Judging
+pub mod Laws
+pub mod Lengths
+pub mod Loading
+pub mod Sheets
+pub mod ShortRefusals
+pub mod Taken
