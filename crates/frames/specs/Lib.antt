@@ -9,7 +9,6 @@ pub mod Steppings
 pub mod Tables
 pub mod Toppings
 pub mod TypedLists
-pub mod Stacks
 pub mod Cases
 pub mod Lists
 pub mod Places

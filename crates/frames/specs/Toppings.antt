@@ -7,11 +7,10 @@ use Rattle.frames.specs.declared.topping.Topping.{Topping}
 use Rattle.frames.specs.Additions.{add_denial}
 use Rattle.frames.specs.Levels.{height_of}
 use Rattle.frames.specs.OwnStoreys.{own_storeys}
-use Rattle.frames.specs.Steps.{stacked}
 
--- the list below, and the topping's own storeys as far as a frame's limits allow
+-- the list below, and on it the topping's own storeys
 abbrev pub topped : {F : Type 0} {g : Ghosts F} → (F → List Level) → Topping F g → List Level
-topped list t = stacked (list t.below) (own_storeys t.own)
+topped list t = list t.below ++ own_storeys t.own
 
 -- how many storeys the whole list has over the list below
 abbrev pub own_count : List Level → List Level → ℕ

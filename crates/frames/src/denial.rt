@@ -6,7 +6,7 @@ use records::denial::Denial;
 /// What is wrong, with the level that it is wrong at.
 #[derive(Clone, Copy, Debug, PartialEq, Eq)]
 pub enum FrameDenial {
-    /// More levels than a frame may have; the first of them that is too many.
+    /// More levels than a frame may have, or a ninth storey of a topping; the first level that is too many.
     TooManyLevels { level: u32 },
     /// A number of this level lies outside its range.
     OutOfRange { level: u32 },

@@ -1,5 +1,5 @@
 //! A kit: levels that are alike, except that the last has the roof weight.
-ghost use Rattle.std.specs.Prelude.{◌≡◌, false, length, is_some};
+ghost use Rattle.std.specs.Prelude.{◌≡◌, false, length, is_some, IfOk};
 ghost use Rattle.frames.specs.Kits.{kit_in_range, kit_denial, kit_list};
 
 use crate::denial::FrameDenial;
@@ -25,6 +25,7 @@ impl Kit {
     /// The frame that the numbers describe.
     pub fn new(numbers: KitNumbers) -> Result<Kit, FrameDenial>
         ensures answer { Made numbers result }
+        ensures list { IfOk result (λ kit. ⟦<Kit as Frame>⟧.list kit ≡ kit_list numbers) }
         ensures law { MadeAlike numbers result }
     {
         Self::check(&numbers)?;

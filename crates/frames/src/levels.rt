@@ -1,5 +1,5 @@
 //! The levels of a frame, one after another.
-ghost use Rattle.std.specs.Prelude.{◌≤◌, drop};
+ghost use Rattle.std.specs.Prelude.{◌≤◌};
 ghost use Rattle.std.specs.Iterator.{YieldsFirst, item_count};
 
 use crate::frame::Frame;
@@ -16,9 +16,11 @@ pub struct Levels<'a, F> {
 impl<'a, F: Frame> Iterator for Levels<'a, F> {
     type Item = Level;
 
-    ghost next_gives = { YieldsFirst (λ s. drop s.passed (F.Frame.list s.frame.now)) };
+    ghost use Rattle.frames.specs.Walks.{levels_left};
 
-    ghost remaining = { item_count (λ s. drop s.passed (F.Frame.list s.frame.now)) };
+    ghost next_gives = { YieldsFirst (levels_left F.Frame.list) };
+
+    ghost remaining = { item_count (levels_left F.Frame.list) };
 
     fn next(&mut self) -> Option<Level> {
         let level = self.frame.level(self.passed + 1)?;

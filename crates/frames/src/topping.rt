@@ -18,7 +18,7 @@ use records::limits::MOST_STOREYS;
 pub struct Topping<F: Frame> {
     below: F,
     own: Storeys,
-    ghost whole: { Sound (F.list below ++ own_storeys own) },
+    pub ghost whole: { Sound (F.list below ++ own_storeys own) },
 }
 
 impl<F: Frame> Topping<F> {
@@ -27,7 +27,7 @@ impl<F: Frame> Topping<F> {
     /// The frame below, with no storey on it as yet.
     pub fn new(below: F) -> Topping<F>
         ensures same { result.below ≡ below }
-        ensures list { topped F.Frame.list result ≡ F.Frame.list below }
+        ensures list { ⟦<Topping<F> as Frame>⟧.list result ≡ F.Frame.list below }
     {
         Topping {
             below,
@@ -37,7 +37,8 @@ impl<F: Frame> Topping<F> {
 
     /// The frame with one level more on top; where it is denied the list stays as it was.
     pub fn add(&mut self, level: Level) -> Result<(), FrameDenial>
-        ensures answer { Added (F.Frame.list self.old.below) (topped F.Frame.list self.old) (topped F.Frame.list self.new) level result }
+        ensures answer { Added (F.Frame.list self.old.below) (⟦<Topping<F> as Frame>⟧.list self.old)
+            (⟦<Topping<F> as Frame>⟧.list self.new) level result }
         ensures below { self.new.below ≡ self.old.below }
     {
         self.admit(&level)?;
@@ -78,11 +79,10 @@ fn judge_added(stack: Stack, own: u32, level: &Level) -> Result<(), FrameDenial>
 
 impl<F: Frame> Frame for Topping<F> {
     ghost use Rattle.frames.specs.Toppings.{topped};
-    ghost use Rattle.frames.specs.Stacks.{stacked_sound};
 
     ghost list = { topped F.Frame.list };
 
-    ghost sound = { λ f. stacked_sound (F.Frame.list f.below) (own_storeys f.own) (F.Frame.sound f.below) };
+    ghost sound = { λ t. t.whole };
 
     #[tactic(auto, using(crate::proofs::Toppings::whole_count))]
     fn count(&self) -> u32 {

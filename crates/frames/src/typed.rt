@@ -21,11 +21,11 @@ pub struct Typed {
 }
 
 impl Typed {
-    ghost use Rattle.frames.specs.TypedLists.{typed_list, Laid, LaidWhen};
+    ghost use Rattle.frames.specs.TypedLists.{Laid, LaidWhen};
 
     /// A frame with no level, that takes memory from `heap`.
     pub fn new(heap: Global) -> Typed
-        ensures { typed_list result ≡ [] }
+        ensures { ⟦<Typed as Frame>⟧.list result ≡ [] }
     {
         Typed {
             levels: Vec::new(heap),
@@ -35,7 +35,7 @@ impl Typed {
 
     /// The frame with the table for its list; where it is refused the list stays as it was.
     pub fn lay(&mut self, table: &[Level]) -> Result<(), Failure<FrameDenial>>
-        ensures answer { Laid table.now (typed_list self.old) (typed_list self.new) result }
+        ensures answer { Laid table.now (⟦<Typed as Frame>⟧.list self.old) (⟦<Typed as Frame>⟧.list self.new) result }
         ensures law { LaidWhen table.now result }
     {
         check(table)?;

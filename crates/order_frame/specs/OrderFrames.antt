@@ -19,13 +19,19 @@ abbrev pub frame_list : OrderFrame → List Level
 frame_list (Typed t) = typed_list t
 frame_list (Topped t) = topped made_list t
 
+-- without a kit the levels stand in a typed frame, with one in a topping on the kit of exactly these numbers
+abbrev pub MadeOn : Option KitNumbers → OrderFrame → Type 0
+MadeOn kit (Typed t) = kit ≡ None
+MadeOn kit (Topped t) = kit ≡ Some t.below.numbers
+
 -- the frame of exactly these levels, or the denial; memory is wanting only for a table without denial, never on a kit
 abbrev pub Framed : Option KitNumbers → List Level → Result OrderFrame (Failure FrameDenial) → Type 0
-Framed kit levels (Ok f) = (frame_denial kit levels ≡ None) × (frame_list f ≡ frame_levels kit levels)
+Framed kit levels (Ok f) = (frame_denial kit levels ≡ None) × (frame_list f ≡ frame_levels kit levels) × MadeOn kit f
 Framed kit levels (Err (Denied d)) = frame_denial kit levels ≡ Some d
 Framed kit levels (Err NoMemory) = (frame_denial kit levels ≡ None) × (kit ≡ None)
 
 -- the same of a kit with levels put on it
 abbrev pub ToppedBy : {g : Ghosts Kit} → KitNumbers → List Level → Result (Topping Kit g) FrameDenial → Type 0
-ToppedBy n levels (Ok t) = (frame_denial (Some n) levels ≡ None) × (topped made_list t ≡ frame_levels (Some n) levels)
+ToppedBy n levels (Ok t) =
+    (frame_denial (Some n) levels ≡ None) × (topped made_list t ≡ frame_levels (Some n) levels) × (t.below.numbers ≡ n)
 ToppedBy n levels (Err d) = frame_denial (Some n) levels ≡ Some d

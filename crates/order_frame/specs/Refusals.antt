@@ -2,6 +2,7 @@
 use Rattle.std.specs.Prelude.{ℕ, ◌-◌, List, [], ◌∷◌, Some, None, codes, decimal, Option}
 use Rattle.std.specs.Option.{option_map}
 use Rattle.records.specs.declared.kit_numbers.KitNumbers.{KitNumbers}
+use Rattle.tokens.specs.Text.{line_of}
 use Rattle.tokens.specs.Faults.{fault_number, fault_place, fault_line}
 use Rattle.frames.specs.declared.denial.FrameDenial.{FrameDenial}
 use Rattle.frames.specs.declared.denial.FrameDenial.TheVariants.{TooManyLevels, OutOfRange, TooHigh, KitOutOfRange, KitTooHigh}
@@ -29,6 +30,10 @@ refusal_place (Unframed d line) = denial_place d
 -- REFUSED, the refusal's number, the line that is to blame, its place: so every refusal of a file is printed
 abbrev pub refusal_words : ℕ → ℕ → ℕ → List (List ℕ)
 refusal_words number line place = codes "REFUSED" ∷ decimal number ∷ decimal line ∷ decimal place ∷ []
+
+-- the line of a refusal of any kind, by what its number and its place are
+abbrev pub refusal_told : {D : Type 0} → (D → ℕ) → (D → ℕ) → D → ℕ → List ℕ
+refusal_told numbered placed denial line = line_of (refusal_words (numbered denial) line (placed denial)) []
 
 -- the words of a refusal of a file or its frame
 abbrev pub refused_words : Refusal → List (List ℕ)

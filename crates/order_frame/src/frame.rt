@@ -1,11 +1,8 @@
 //! The frame that the records of an order file describe.
-ghost use Rattle.std.specs.Prelude.{◌≡◌};
+ghost use Rattle.std.specs.Prelude.{◌≡◌, IfOk};
+ghost use Rattle.order_frame.specs.Frames.{frame_levels};
 ghost use Rattle.order_frame.specs.OrderFrames.{frame_list, Framed, ToppedBy};
 ghost use Rattle.order_frame.specs.Reasons.{Reasoned, ReasonTold};
-ghost use Rattle.frames.specs.KitFrames.{made_list};
-ghost use Rattle.frames.specs.OwnStoreys.{own_storeys};
-ghost use Rattle.frames.specs.KitLists.{kit_sound};
-ghost use Rattle.frames.specs.Stacks.{stacked_sound};
 ghost use Rattle.order_frame.specs.declared.frame.OrderFrame.TheVariants.{Typed, Topped};
 
 use frames::denial::FrameDenial;
@@ -33,6 +30,7 @@ impl OrderFrame {
         heap: Global,
     ) -> Result<OrderFrame, Failure<FrameDenial>>
         ensures frame { Framed kit levels.now result }
+        ensures list { IfOk result (λ frame. ⟦<OrderFrame as Frame>⟧.list frame ≡ frame_levels kit levels.now) }
         ensures reason { Reasoned kit levels.now result }
         ensures only { ReasonTold kit levels.now result }
     {
@@ -75,7 +73,7 @@ impl Frame for OrderFrame {
 
     ghost sound = { elim [
       | Typed t ↦ t.ok
-      | Topped t ↦ stacked_sound (made_list t.below) (own_storeys t.own) (kit_sound t.below.numbers t.below.ok)
+      | Topped t ↦ t.whole
     ] };
 
     fn count(&self) -> u32 {

@@ -1,10 +1,12 @@
 //! A refusal as every program prints it.
-ghost use Rattle.std.specs.Prelude.{◌≡◌, Some};
+ghost use Rattle.std.specs.Prelude.{◌≡◌, [], Some};
+ghost use Rattle.pen.specs.Tails.{CopiedTo};
 ghost use Rattle.tokens.specs.Text.{joined};
-ghost use Rattle.order_frame.specs.Refusals.{refusal_number, refusal_line, refusal_place, refusal_words, refused_words};
+ghost use Rattle.order_frame.specs.Refusals.{refusal_number, refusal_line, refusal_place, refusal_told, refusal_words, refused_words};
 ghost use Rattle.order_frame.specs.declared.refusal.Refusal.TheVariants.{Faulty};
 
 use frames::denial::FrameDenial;
+use pen::tail::Tail;
 use records::denial::Denial;
 use std::fmt;
 use tokens::fault::Fault;
@@ -76,16 +78,48 @@ pub struct RefusedWords<'a, D> {
     pub line: u32,
 }
 
+impl<D: Denial> RefusedWords<'_, D> {
+    /// Writes the refusal's line to the front of `out`, where it holds it, and answers how many bytes that is.
+    pub fn write_line(&self, out: &mut [u8]) -> Option<usize>
+        ensures { CopiedTo (refusal_told D.numbered D.placed self.now.denial.now self.now.line) out.old result out.new }
+    {
+        self.told().copy_to(out)
+    }
+
+    // The refusal's line.
+    fn told(&self) -> Tail
+        ensures { result ≡ refusal_told D.numbered D.placed self.now.denial.now self.now.line }
+    {
+        let mut line = Tail::new();
+        self.put(&mut line).unwrap();
+        line
+    }
+
+    // Puts the words of the refusal into its line.
+    fn put(&self, line: &mut Tail) -> Option<()>
+        requires { line.old ≡ [] }
+        ensures all { result ≡ Some tt }
+        ensures written { line.new ≡ refusal_told D.numbered D.placed self.now.denial.now self.now.line }
+    {
+        line.number(self.denial.place(), b'\n')?;
+        line.number(self.line, b' ')?;
+        line.number(self.denial.number(), b' ')?;
+        line.word(b"REFUSED", b' ')
+    }
+}
+
 impl<D: Denial> fmt::Display for RefusedWords<'_, D> {
     ghost output = { λ words. Some (joined (refusal_words (D.numbered words.denial.now) words.line (D.placed words.denial.now))) };
 
     fn fmt<W: fmt::Write>(&self, f: &mut fmt::Formatter<W>) -> fmt::Result {
-        write!(
-            f,
-            "REFUSED {} {} {}",
-            self.denial.number(),
-            self.line,
-            self.denial.place()
-        )
+        let line = self.told();
+        // Without the byte that ends it, since what prints a refusal ends the line.
+        let Some((_, words)) = line.bytes().split_last() else {
+            return Err(fmt::Error);
+        };
+        match std::str::from_utf8(words) {
+            Ok(words) => f.write_str(words),
+            Err(_) => Err(fmt::Error),
+        }
     }
 }

@@ -1,6 +1,7 @@
 use Rattle.std.proofs.Common.{List, ◌++◌, ap, ◌∙◌}
 use Rattle.std.proofs.lemmas.Result.{err_from_is_err_and}
 use Rattle.records.specs.declared.level.Level.{Level}
+use Rattle.frames.specs.declared.kit.Kit.{Kit}
 use Rattle.frames.specs.KitFrames.{made_list}
 use Rattle.order_frame.proofs.Adding.{put_more, put_denied, put_all, on_kit}
 use Rattle.order_frame.proofs.frame.topped.Goals as goal
@@ -26,5 +27,8 @@ pub returns : goal.returns
 returns c =
     let kit = c.in_ok-new.ensures.answer in
     let base = ap made_list c.new-topping.ensures.same ∙ kit.2 in
-    let all = put_all _ c.args.levels.now c.loop-level.level-index _ c.loop-level-test.false c.loop-level.invariant.1 in
-    (on_kit c.args.numbers _ _ _ kit.0 base all.0, all.1 ∙ ap (λ (ls : List Level). ls ++ c.args.levels.now) base)
+    let all = put_all _ c.args.levels.now c.loop-level.level-index _ c.loop-level-test.false c.loop-level.invariant.1 in (
+      on_kit c.args.numbers _ _ _ kit.0 base all.0,
+      all.1 ∙ ap (λ (ls : List Level). ls ++ c.args.levels.now) base,
+      ap (λ (k : Kit). k.numbers) (c.loop-level.invariant.0 ∙ c.new-topping.ensures.same) ∙ kit.1,
+    )

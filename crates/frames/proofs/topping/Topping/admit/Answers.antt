@@ -12,7 +12,7 @@ returns g c =
     let ls = g.F.Frame.list t.below in
     let whole = topped g.F.Frame.list t in
     let l = c.args.level.now in
-    let own = c.count.ensures ∙ own_over ls (own_storeys t.own) t.whole in
+    let own = c.count.ensures ∙ own_over ls (own_storeys t.own) in
     subst (λ d. Checked d c.judge_added.result)
     (ap (λ n. add_denial n c.count.result c.of.result.top.0 l) c.of.ensures.levels
     ∙ ap (λ s. add_denial (length whole) s c.of.result.top.0 l) own

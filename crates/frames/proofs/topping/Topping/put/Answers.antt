@@ -1,7 +1,6 @@
 use Rattle.std.proofs.Common.{◌++◌, ap, ◌∙◌, subst, sym}
 use Rattle.frames.specs.Levels.{Sound}
 use Rattle.frames.specs.OwnStoreys.{own_storeys}
-use Rattle.frames.specs.Steps.{stacked}
 use Rattle.frames.specs.Toppings.{own_count}
 use Rattle.frames.proofs.Toppings.{grown}
 use Rattle.frames.proofs.topping.Topping.put.Goals as goal
@@ -22,10 +21,10 @@ pub returns-clause-list : goal.returns-clause-list
 returns-clause-list g c =
     let t = c.args.self.now in
     let ls = g.F.Frame.list t.below in
-    ap (stacked ls) c.put.ensures ∙ (grown ls (own_storeys t.own) c.args.level t.whole c.requires).list
+    ap (λ own. ls ++ own) c.put.ensures ∙ (grown ls (own_storeys t.own) c.args.level t.whole c.requires).list
 
 pub returns-clause-more : goal.returns-clause-more
 returns-clause-more g c =
     let t = c.args.self.now in
     let ls = g.F.Frame.list t.below in
-    ap (λ own. own_count ls (stacked ls own)) c.put.ensures ∙ (grown ls (own_storeys t.own) c.args.level t.whole c.requires).more
+    ap (λ own. own_count ls (ls ++ own)) c.put.ensures ∙ (grown ls (own_storeys t.own) c.args.level t.whole c.requires).more
