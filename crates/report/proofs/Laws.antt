@@ -17,7 +17,8 @@ use Rattle.report.specs.Reports.{after_frame, report_text, text_of}
 of_first_bytes : (bytes : List ℕ) → report_text bytes ≡ report_text (take byte_limit bytes)
 of_first_bytes bytes = ap (λ (o : Result Filed Fault). text_of (after_frame (frame_judged o))) (file_front bytes)
 
-report_law : (bytes : List ℕ) → ReportLaw bytes (report_text bytes)
+-- the report of every file keeps the law
+pub report_law : (bytes : List ℕ) → ReportLaw bytes (report_text bytes)
 report_law bytes =
     record {
       good_file_shows_sheet = good_shows_sheet bytes;

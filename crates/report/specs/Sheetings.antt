@@ -1,6 +1,5 @@
 -- What each step on the way to the sheet comes to.
-use Rattle.std.specs.Prelude.{◌≡◌, ◌+◌, List, [], ◌∷◌, ◌++◌, length, Some, None, Ok, Err, Result, String, string_bytes}
-use Rattle.std.specs.Global.{Global}
+use Rattle.std.specs.Prelude.{◌≡◌, ℕ, ◌+◌, List, [], ◌∷◌, ◌++◌, length, drop, Some, None, Ok, Err, Result}
 use Rattle.records.specs.declared.failure.Failure.{Failure}
 use Rattle.records.specs.declared.failure.Failure.TheVariants.{Denied, NoMemory}
 use Rattle.records.specs.declared.line.Line.{Line}
@@ -11,11 +10,20 @@ use Rattle.seismic.specs.Refusals.{shear_denial}
 use Rattle.report.specs.declared.refusal.Refusal.{Refusal}
 use Rattle.report.specs.Reports.{frame_of, levels_of, load_refusal, on_card, on_line, sheeted, text_of}
 
--- the text of the sheet, or the refusal; nothing is said where there was no memory
-abbrev pub Told : Result (String Global) (Failure Refusal) → Result Filed Refusal → Type 0
-Told (Ok text) want = string_bytes text ≡ text_of want
-Told (Err (Denied r)) want = want ≡ Err r
-Told (Err NoMemory) want = Unit {0}
+-- a text stands at the front of a buffer, and further bytes are as they were
+abbrev pub Put : List ℕ → List ℕ → ℕ → List ℕ → Type 0
+Put text before n after = (n ≡ length text) × (after ≡ text ++ drop n before)
+
+-- the text of the sheet, or the refusal
+abbrev pub Shown : List ℕ → Result ℕ Refusal → List ℕ → Result Filed Refusal → Type 0
+Shown before (Ok n) after want = Put (text_of want) before n after
+Shown before (Err r) after want = (want ≡ Err r) × (after ≡ before)
+
+-- the same where memory may be wanting, of which nothing is said
+abbrev pub Told : List ℕ → Result ℕ (Failure Refusal) → List ℕ → Result Filed Refusal → Type 0
+Told before (Ok n) after want = Shown before (Ok n) after want
+Told before (Err (Denied r)) after want = Shown before (Err r) after want
+Told before (Err NoMemory) after want = after ≡ before
 
 -- a load is booked after those that stand, or refused on its line
 abbrev pub Booked : Filed → List Line → Line → Result (Unit {0}) Refusal → List Line → Type 0

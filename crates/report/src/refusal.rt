@@ -1,6 +1,7 @@
 //! Why an order file has no sheet.
-ghost use Rattle.std.specs.Prelude.{◌≡◌, Some};
-ghost use Rattle.tokens.specs.Text.{joined};
+ghost use Rattle.std.specs.Prelude.{◌≡◌, []};
+ghost use Rattle.pen.specs.Tails.{CopiedTo};
+ghost use Rattle.tokens.specs.Text.{line_of};
 ghost use Rattle.report.specs.Refusals.{refusal_number, refusal_line, refusal_place, refused_words};
 ghost use Rattle.report.specs.declared.refusal.Refusal.TheVariants.{NoFrame};
 
@@ -8,7 +9,6 @@ use order_frame::refusal::{Refusal as FrameRefusal, RefusedWords};
 use orders::denial::OrderDenial;
 use records::denial::Denial;
 use seismic::denial::ShearDenial;
-use std::fmt;
 
 // What is wrong, and on which line of the file; line 0 where no line is to blame.
 #[derive(Clone, Copy, Debug, PartialEq, Eq)]
@@ -22,6 +22,14 @@ pub(crate) enum Refusal {
 }
 
 impl Refusal {
+    // Writes its line to the front of `out`, where it holds it.
+    pub(crate) fn write(&self, out: &mut [u8]) -> Option<usize>
+        ensures { CopiedTo (line_of (refused_words self.now) []) out.old result out.new }
+    {
+        let line = self.line();
+        RefusedWords { denial: self, line }.write_line(out)
+    }
+
     // The line of the file that is to blame.
     fn line(&self) -> u32
         ensures { result ≡ refusal_line self.now }
@@ -60,14 +68,5 @@ impl From<FrameRefusal> for Refusal {
 
     fn from(refusal: FrameRefusal) -> Refusal {
         Refusal::NoFrame(refusal)
-    }
-}
-
-impl fmt::Display for Refusal {
-    ghost output = { λ r. Some (joined (refused_words r)) };
-
-    fn fmt<W: fmt::Write>(&self, f: &mut fmt::Formatter<W>) -> fmt::Result {
-        let line = self.line();
-        write!(f, "{}", RefusedWords { denial: self, line })
     }
 }

@@ -6,7 +6,8 @@ ghost use Rattle.order_file.specs.File.{filed};
 ghost use Rattle.orders.specs.Orders.{order_list};
 ghost use Rattle.orders.specs.Tables.{booked};
 ghost use Rattle.report.specs.Reports.{frame_of, judged, levels_of, shear_line};
-ghost use Rattle.report.specs.Sheetings.{AllBooked, Booked, Told, shears_judged};
+ghost use Rattle.report.specs.Buffers.{buffer_size};
+ghost use Rattle.report.specs.Sheetings.{AllBooked, Booked, Shown, Told, shears_judged};
 
 use crate::refusal::Refusal;
 use frames::frame::Frame;
@@ -23,14 +24,19 @@ use seismic::row::Row;
 use sheet_text::SheetText;
 use std::alloc::Global;
 
-// The text of the sheet of an order file, or the first refusal.
-pub(crate) fn text_of_file(bytes: &[u8], heap: Global) -> Result<String, Failure<Refusal>>
-    ensures { Told result (judged bytes.now) }
+// Writes the text of the sheet of an order file to the front of `out`, or answers the first refusal.
+pub(crate) fn write_sheet(
+    bytes: &[u8],
+    out: &mut [u8],
+    heap: Global,
+) -> Result<usize, Failure<Refusal>>
+    requires { buffer_size ≤ length out.old }
+    ensures { Told out.old result out.new (judged bytes.now) }
 {
     let Opened { file, frame } = open(bytes, heap).map_err(Failure::widen)?;
     let mut order = Order::open(frame, heap)?;
     book_all(&mut order, &file)?;
-    sheet_of(&order, &file, heap)
+    Ok(write_shears(&order, &file, out)?)
 }
 
 // Books the loads of the file on a new order, up to the first that is denied.
@@ -65,14 +71,15 @@ fn book<F: Frame>(
     })
 }
 
-// The text of the sheet of an order with the file's loads on it.
-fn sheet_of<F: Frame>(
+// Writes the text of the sheet of an order with the file's loads on it.
+fn write_shears<F: Frame>(
     order: &Order<F, Open>,
     file: &OrderFile,
-    heap: Global,
-) -> Result<String, Failure<Refusal>>
-    requires { order_list F.Frame.list order.now ≡ levels_of (filed file.now) }
-    ensures { Told result (shears_judged (filed file.now)) }
+    out: &mut [u8],
+) -> Result<usize, Refusal>
+    requires loaded { order_list F.Frame.list order.now ≡ levels_of (filed file.now) }
+    requires room { buffer_size ≤ length out.old }
+    ensures { Shown out.old result out.new (shears_judged (filed file.now)) }
 {
     let mut rows = [Row::default(); MOST_LEVELS as usize];
     match order.sheet(&file.card, &mut rows) {
@@ -81,9 +88,9 @@ fn sheet_of<F: Frame>(
                 sheet: &sheet,
                 rows: &rows,
             };
-            Ok(format!(in heap; "{text}")?)
+            Ok(text.write(out).unwrap())
         }
-        Err(denial) => Err(Failure::Denied(refusal_of(file, denial))),
+        Err(denial) => Err(refusal_of(file, denial)),
     }
 }
 

@@ -17,16 +17,24 @@ verdict_words (Fail storey limit) = codes "FAIL" ∷ decimal storey ∷ decimal 
 abbrev pub sheet_words : Sheet → List (List ℕ)
 sheet_words s = codes "SHEET" ∷ decimal s.levels ∷ decimal s.weight ∷ decimal s.base_shear ∷ verdict_words s.verdict
 
--- level, weight, H, F, V, u, x, Ma, Mb, s
+-- the storey's u, the level's x, Ma, Mb, s
+abbrev pub movement_words : Row → List (List ℕ)
+movement_words r =
+    decimal r.drift ∷ decimal r.displacement ∷ decimal r.ma ∷ signed_decimal r.mb ∷ decimal r.separation ∷ []
+
+-- level, weight, H, F, V, and those
 abbrev pub row_words : Row → List (List ℕ)
 row_words r =
-    decimal r.level ∷ decimal r.weight ∷ decimal r.height.0 ∷ decimal r.force ∷ decimal r.shear
-    ∷ decimal r.drift ∷ decimal r.displacement ∷ decimal r.ma ∷ signed_decimal r.mb ∷ decimal r.separation ∷ []
+    decimal r.level ∷ decimal r.weight ∷ decimal r.height.0 ∷ decimal r.force ∷ decimal r.shear ∷ movement_words r
 
 -- a level's line
 abbrev pub row_line : Row → List ℕ
 row_line r = line_of (row_words r) []
 
+-- the heading, and a line a row
+abbrev pub text_of : Sheet → List Row → List ℕ
+text_of s rows = line_of (sheet_words s) [] ++ flat_map row_line rows
+
 -- the heading, and a line a level, from below; further rows were lent and not written
 abbrev pub sheet_text : Sheet → List Row → List ℕ
-sheet_text s rows = line_of (sheet_words s) [] ++ flat_map row_line (take s.levels rows)
+sheet_text s rows = text_of s (take s.levels rows)
