@@ -1,6 +1,6 @@
 -- The levels of an order keep a frame's limits, with the lines that stand and with the oldest of them.
-use Rattle.std.proofs.Common.{◌≡◌, ℕ, zero, suc, ◌+◌, true, nat_le, ◌<◌, ◌≤◌, List, [], ◌∷◌, ◌++◌, length, take, drop, pos, ◌+ℤ◌, Some, None, refl, sym, ap, ◌∙◌, subst, ⊎_elim, arith, option_map, length-append, take_all, take_at, take-append-drop}
-use Rattle.std.proofs.lemmas.Bool.{and_parts, cases_lt, leb-true}
+use Rattle.std.proofs.Common.{◌≡◌, ℕ, zero, suc, ◌+◌, true, nat_le, ◌<◌, ◌≤◌, List, [], ◌∷◌, ◌++◌, length, take, drop, pos, ◌+ℤ◌, Some, None, Ok, refl, sym, ap, ◌∙◌, subst, ⊎_elim, arith, option_map, length-append, take_all, take_at, take-append-drop}
+use Rattle.std.proofs.lemmas.Bool.{and_from, and_parts, cases_lt, le-leb, leb-true}
 use Rattle.std.proofs.lemmas.List.{take-append-le}
 use Rattle.records.specs.declared.level.Level.{Level}
 use Rattle.records.specs.declared.line.Line.{Line}
@@ -9,8 +9,9 @@ use Rattle.frames.specs.Levels.{Sound, all_fit, from_bottom, level_at}
 use Rattle.frames.specs.Lists.{limits}
 use Rattle.orders.specs.Calls.{load_denial}
 use Rattle.orders.specs.Loads.{loaded, natural, raised, standing}
-use Rattle.orders.proofs.Judging.{borne}
-use Rattle.orders.proofs.Raising.{raised_at, raised_by_none, sound_more}
+use Rattle.orders.specs.Sums.{level_kept}
+use Rattle.orders.proofs.Judging.{borne, loads_when}
+use Rattle.orders.proofs.Raising.{raised_at, raised_by_none, raised_length, sound_more}
 
 -- with the oldest n of some lines, for every n
 abbrev pub Bearing : List Line → List Level → Type 0
@@ -55,6 +56,14 @@ bears_more ls lines after x bearing accepted e n =
     (sym (take_all n after (omega (arith, all, ap length e, length-append lines (x ∷ []))) ∙ e))
     (sound_more lines x ls (all_borne ls lines bearing) (λ l p. borne ls lines x l accepted p)))
     (cases_lt n (length lines + 1))
+
+-- a line that nothing stands against is on a level that a frame may have
+pub placed : (ls : List Level) (lines : List Line) (x : Line) → Bearing lines ls → load_denial ls lines x ≡ None → level_kept x.level ≡ true
+unfolding level_kept
+placed ls lines x bearing accepted =
+    let there = (loads_when ls lines x (Ok tt) accepted).0 in
+    let few = (limits (raised [] ls) (bearing 0)).few in
+    and_from (nat_le 1 x.level) _ (le-leb 1 x.level there.0) (le-leb x.level 24 (omega (arith, there.1, few, raised_length [] ls)))
 
 light_from : (ls : List Level) (i : ℕ) (l : Level) → all_fit ls ≡ true → from_bottom ls i ≡ Some l → l.weight ≤ 5000
 light_from [] i l fit e = cc

@@ -22,7 +22,7 @@ fits_passes (pos n) fits =
 fits_passes (negsuc n) fits = le-leb n 4999 (omega (arith, ints, fits.1))
 
 -- and one that passes fits
-passes_fits : (z : ℤ) → load_fits z ≡ true → LoadFits z
+pub passes_fits : (z : ℤ) → load_fits z ≡ true → LoadFits z
 passes_fits (pos n) e =
     let p = and_parts (not (n == 0)) (nat_le n 5000) e in
     let some = eqb-false n 0 (not-true (n == 0) p.0) in

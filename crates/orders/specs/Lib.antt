@@ -3,4 +3,5 @@ pub mod Denials
 pub mod Loads
 pub mod Orders
 pub mod Sound
+pub mod Sums
 pub mod Tables

@@ -6,7 +6,7 @@ ghost use Rattle.orders.specs.Tables.{booked};
 
 use crate::line_table::LineTable;
 use crate::order::Order;
-use crate::state::{Issued, OnTrial, Open};
+use crate::state::{Issued, OnTrial, Open, Working};
 use frames::frame::Frame;
 use std::alloc::{AllocFailed, Global};
 
@@ -17,6 +17,7 @@ impl<F: Frame> Order<F, Open> {
     pub fn open(frame: F, heap: Global) -> Result<Order<F, Open>, AllocFailed<F>>
         ensures frame { IfOk result (λ o. o.frame ≡ frame) }
         ensures lines { IfOk result (λ o. booked o.lines ≡ []) }
+        ensures reach { IfOk result (λ o. ⟦<Open as Working>⟧.bound_of o.state ≡ 0) }
         ensures returned { IfErr result (λ e. e.value ≡ frame) }
     {
         match LineTable::new(heap) {
@@ -34,6 +35,7 @@ impl<F: Frame> Order<F, Open> {
         ensures frame { result.frame ≡ self.frame }
         ensures lines { booked result.lines ≡ booked self.lines }
         ensures bound { result.state.bound ≡ length (booked self.lines) }
+        ensures reach { ⟦<OnTrial as Working>⟧.bound_of result.state ≡ length (booked self.lines) }
     {
         let bound = self.lines.count();
         self.moved(OnTrial { bound })
@@ -54,6 +56,7 @@ impl<F: Frame> Order<F, OnTrial> {
     pub fn keep(self) -> Order<F, Open>
         ensures frame { result.frame ≡ self.frame }
         ensures lines { booked result.lines ≡ booked self.lines }
+        ensures reach { ⟦<Open as Working>⟧.bound_of result.state ≡ 0 }
     {
         self.moved(Open)
     }
@@ -62,6 +65,7 @@ impl<F: Frame> Order<F, OnTrial> {
     pub fn abandon(mut self) -> Order<F, Open>
         ensures frame { result.frame ≡ self.frame }
         ensures lines { booked result.lines ≡ take self.state.bound (booked self.lines) }
+        ensures reach { ⟦<Open as Working>⟧.bound_of result.state ≡ 0 }
     {
         let bound = self.state.bound;
         self.lines.cut(bound);
@@ -76,6 +80,7 @@ impl<F: Frame> Order<F, Issued> {
     pub fn reopen(self) -> Order<F, Open>
         ensures frame { result.frame ≡ self.frame }
         ensures lines { booked result.lines ≡ booked self.lines }
+        ensures reach { ⟦<Open as Working>⟧.bound_of result.state ≡ 0 }
     {
         self.moved(Open)
     }

@@ -1,5 +1,5 @@
 //! Loads are booked and struck while an order is open or on trial.
-ghost use Rattle.std.specs.Prelude.{◌≡◌, ◌<◌, ◌≤ℤ◌, [], ◌∷◌, ◌++◌, None, pos, negsuc, length};
+ghost use Rattle.std.specs.Prelude.{◌≡◌, ◌<◌, ◌≤ℤ◌, [], ◌∷◌, ◌++◌, None, Some, pos, negsuc, length};
 ghost use Rattle.frames.specs.Levels.{level_at};
 ghost use Rattle.orders.specs.Loads.{standing, load_fits};
 ghost use Rattle.orders.specs.Tables.{booked};
@@ -52,22 +52,34 @@ impl<F: Frame, S: Working> Order<F, S> {
         self.lines.take_newest()
     }
 
-    // Whether a line may be booked.
+    // Whether a line may be booked, with the law of it.
+    #[tactic(auto, using(crate::proofs::Judging::loads_when))]
     fn judge(&self, line: &Line) -> Result<(), OrderDenial>
         ensures answer { Judged (load_denial (F.Frame.list self.now.frame) (booked self.now.lines) line.now) result }
         ensures law { LoadsWhen (F.Frame.list self.now.frame) (booked self.now.lines) line.now result }
     {
-        let level = self.frame.level(line.level);
+        self.judge_line(line)
+    }
+
+    // Whether a line may be booked.
+    fn judge_line(&self, line: &Line) -> Result<(), OrderDenial>
+        ensures { Judged (load_denial (F.Frame.list self.now.frame) (booked self.now.lines) line.now) result }
+    {
+        let number = line.level;
+        let level = self
+            .frame
+            .level(number)
+            .ok_or(OrderDenial::NoSuchLevel { level: number })?;
         judge(
-            level,
-            self.lines.standing(line.level),
+            &level,
+            self.lines.standing(number),
             self.lines.count(),
             line,
         )
     }
 
     // Puts a line on that may be booked.
-    #[tactic(auto, using(crate::proofs::Bearing::bears_more))]
+    #[tactic(auto, using(crate::proofs::Bearing::bears_more, crate::proofs::Bearing::placed))]
     fn book(&mut self, line: Line)
         requires { load_denial (F.Frame.list self.old.frame) (booked self.old.lines) line ≡ None }
         ensures lines { booked self.new.lines ≡ booked self.old.lines ++ line ∷ [] }
@@ -78,19 +90,17 @@ impl<F: Frame, S: Working> Order<F, S> {
     }
 }
 
-// Whether a line may be booked on the level that it names, where there is one, over so many lines, of which the loads on
-// this level add up so.
-fn judge(level: Option<Level>, standing: i32, lines: u32, line: &Line) -> Result<(), OrderDenial>
+// Whether a line may be booked on the level that it names, over so many lines, of which the loads on this level add up so.
+fn judge(level: &Level, standing: i32, lines: u32, line: &Line) -> Result<(), OrderDenial>
     requires low { negsuc 319999 ≤ℤ standing }
     requires high { standing ≤ℤ pos 320000 }
-    ensures { Judged (line_denial level standing lines line.now) result }
+    ensures { Judged (line_denial (Some level.now) standing lines line.now) result }
 {
     let number = line.level;
-    let level = level.ok_or(OrderDenial::NoSuchLevel { level: number })?;
     if !load_fits(line.load) {
         return Err(OrderDenial::LoadOutOfRange { level: number });
     }
-    if !bears(&level, standing + line.load) {
+    if !bears(level, standing + line.load) {
         return Err(OrderDenial::WeightOutOfRange { level: number });
     }
     if lines >= MOST_LINES {
@@ -110,8 +120,6 @@ fn load_fits(load: i32) -> bool
 fn bears(level: &Level, load: i32) -> bool
     ensures { result ≡ bears level.now load }
 {
-    level
-        .weight
-        .checked_add_signed(load)
-        .is_some_and(|weight| (1..=Level::MOST_WEIGHT).contains(&weight))
+    let weight = level.weight as i64 + load as i64;
+    (1..=Level::MOST_WEIGHT as i64).contains(&weight)
 }
