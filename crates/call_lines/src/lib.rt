@@ -2,7 +2,8 @@
 //! the cards that replace the file's.
 #![tactic(auto)]
 
-ghost use Rattle.call_lines.specs.Entries.{counted, entries_of, ReadAs};
+ghost use Rattle.std.specs.Prelude.{◌≡◌};
+ghost use Rattle.call_lines.specs.Entries.{counted, entries_of, text_limit, ReadAs};
 ghost use Rattle.call_lines.specs.Exact.{Exactly};
 
 use call_line::CallLine;
@@ -30,6 +31,7 @@ pub fn read_calls(
 ) -> Result<Vec<CallLine>, Unread>
     ensures told { ReadAs result (entries_of card first (counted text.now)) }
     ensures exact { Exactly card first result (counted text.now) }
+    ensures size { TEXT_LIMIT ≡ text_limit }
 {
     read_text(text, first, card, heap)
 }

@@ -4,7 +4,7 @@
 //! and its count, and its records follow, one a line.
 #![tactic(auto)]
 
-ghost use Rattle.std.specs.Prelude.{take, IfOk};
+ghost use Rattle.std.specs.Prelude.{◌≡◌, take, IfOk};
 ghost use Rattle.order_file.specs.Exact.{Exactly};
 ghost use Rattle.order_file.specs.File.{byte_limit, order_file_of, filed, sections, ReadAs};
 ghost use Rattle.order_file.specs.Front.{FrontAs, ExactlyBegun, front_within, FrontWithin};
@@ -31,6 +31,7 @@ pub fn read(file: &[u8], heap: Global) -> Result<OrderFile, Failure<Fault>>
     ensures told { ReadAs result (order_file_of file.now) }
     ensures exact { Exactly result file.now }
     ensures front { ReadAs result (order_file_of (take byte_limit file.now)) }
+    ensures size { BYTE_LIMIT ≡ byte_limit }
     ensures lines { IfOk result (λ f. LinedUp (filed f) file.now) }
 {
     read_file(file, heap)

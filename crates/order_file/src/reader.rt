@@ -48,6 +48,7 @@ impl<'a> Reader<'a> {
     }
 
     // The next line, which byte 10 ends.
+    #[inline(always)]
     fn line(&mut self) -> Result<TextLine<'a>, Fault>
         ensures { Lined result (place self.new) self.old.line (next_line (place self.old)) }
     {
@@ -69,6 +70,7 @@ impl<'a> Reader<'a> {
     }
 
     // The count on the line that opens the section `name`.
+    #[inline(always)]
     fn count(&mut self, least: u32, most: u32, name: &[u8]) -> Result<u32, Fault>
         ensures read { Read result (place self.new) (count_line least most name.now (place self.old)) }
         ensures most { IfOk result (λ n. n ≤ most) }
@@ -89,7 +91,7 @@ impl<'a> Reader<'a> {
         ensures read { Reads vec_items result (place self.new) (record_lines R.layout count (place self.old)) }
         ensures count { IfOk result (λ v. vec_len v ≡ count) }
     {
-        let mut records = Vec::new(self.heap);
+        let mut records = Vec::with_capacity(self.heap, count as usize)?;
         for _ in 0..count {
             records.push(self.record()?)?;
         }

@@ -15,7 +15,8 @@ use tokens::text_line::TextLine;
 pub trait Record: Sized {
     ghost layout: { Left → Option (Self × Left) };
 
-    /// The record whose fields stand next in the line, or a fault of layout; words that follow them stay in the line.
+    /// The record whose fields stand next in the line, or a fault of layout; words that follow them stay in the line. What a
+    /// fault leaves of the line is not said.
     fn read(line: &mut TextLine<'_>) -> Result<Self, Fault>
         ensures took { Took (λ x. x) result (left line.new) (numbered line.old) (layout (left line.old)) }
         ensures same { numbered line.new ≡ numbered line.old };

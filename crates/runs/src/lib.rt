@@ -20,6 +20,8 @@ pub mod call;
 /// One answer a call, in the order of the calls. Opens a new order over a frame, and makes the calls one after another, each
 /// on what those before it left. A call that the state of the order does not have changes nothing, and is answered so. Where
 /// there is no memory for the answers or the lines, no call is made, and frame and calls are handed back.
+// Kept a call of its own: a run's cost can then be read off any program.
+#[inline(never)]
 pub fn run<F: Frame + Drop>(
     frame: F,
     calls: Vec<Call>,

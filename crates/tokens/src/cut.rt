@@ -4,6 +4,7 @@ ghost use Rattle.std.specs.Option.{option_map};
 ghost use Rattle.tokens.specs.Cuts.{cut_at};
 
 // What stands before the first `stop`, and what stands after it.
+#[inline(always)]
 pub(crate) fn cut(stop: u8, bytes: &[u8]) -> Option<(&[u8], &[u8])>
     ensures { option_map (λ p. (p.0.now, p.1.now)) result ≡ cut_at stop bytes.now }
 {

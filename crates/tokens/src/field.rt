@@ -20,6 +20,7 @@ pub trait Field: Sized {
 impl Field for u32 {
     ghost meaning = { as_number };
 
+    #[inline(always)]
     fn of(token: Token<'_>) -> Option<Self> {
         match token {
             Token::Number(bytes) => number(bytes),
@@ -31,6 +32,7 @@ impl Field for u32 {
 impl Field for StoreyHeight {
     ghost meaning = { as_height };
 
+    #[inline(always)]
     fn of(token: Token<'_>) -> Option<Self> {
         u32::of(token).map(StoreyHeight)
     }
@@ -39,6 +41,7 @@ impl Field for StoreyHeight {
 impl Field for i32 {
     ghost meaning = { as_load };
 
+    #[inline(always)]
     fn of(token: Token<'_>) -> Option<Self> {
         match token {
             Token::Number(bytes) => positive(bytes),
@@ -51,6 +54,7 @@ impl Field for i32 {
 impl Field for Option<u32> {
     ghost meaning = { as_period };
 
+    #[inline(always)]
     fn of(token: Token<'_>) -> Option<Self> {
         match token {
             Token::Number(bytes) => number(bytes).map(Some),
@@ -63,6 +67,7 @@ impl Field for Option<u32> {
 impl<M: Mark> Field for M {
     ghost meaning = { as_mark M.named };
 
+    #[inline(always)]
     fn of(token: Token<'_>) -> Option<Self> {
         match token {
             Token::Mark(mark) => M::named(mark),

@@ -8,6 +8,7 @@ const MORE_DIGITS: usize = 8;
 
 // The number that some digits go on to write after the digit `start`.
 #[tactic(auto, using(crate::proofs::Digits::ten_most))]
+#[inline(always)]
 fn more_digits(start: u8, digits: &[u8]) -> Option<u32>
     requires start_bound { start < 10 }
     requires digits_len_bound { length digits.now ≤ 8 }
@@ -26,6 +27,7 @@ fn more_digits(start: u8, digits: &[u8]) -> Option<u32>
 }
 
 // The number that some bytes write.
+#[inline(always)]
 pub(crate) fn number(bytes: &[u8]) -> Option<u32>
     ensures value { result ≡ number_of bytes.now }
     ensures bound { IfSome result (λ n. n < 10 ^ 9) }
@@ -40,6 +42,7 @@ pub(crate) fn number(bytes: &[u8]) -> Option<u32>
 }
 
 // A load with no sign.
+#[inline(always)]
 pub(crate) fn positive(bytes: &[u8]) -> Option<i32>
     ensures { result ≡ option_map pos (number_of bytes.now) }
 {
@@ -47,6 +50,7 @@ pub(crate) fn positive(bytes: &[u8]) -> Option<i32>
 }
 
 // A load whose minus sign stands before `after`. There is no minus zero.
+#[inline(always)]
 pub(crate) fn negative(after: &[u8]) -> Option<i32>
     ensures { result ≡ negated after.now }
 {

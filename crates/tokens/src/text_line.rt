@@ -21,6 +21,7 @@ pub struct TextLine<'a> {
 impl<'a> TextLine<'a> {
     /// The first line of a text, which has this number, and what stands after its byte 10; nothing
     /// where no byte 10 ends it.
+    #[inline(always)]
     pub fn first_of(text: &'a [u8], number: u32) -> Option<(TextLine<'a>, &'a [u8])>
         ensures parts { option_map (λ p. (left p.0, p.1.now)) result ≡ first_line text.now }
         ensures number { IfSome result (λ p. numbered p.0 ≡ number) }
@@ -62,6 +63,7 @@ impl<'a> TextLine<'a> {
 
     // The next word. Here and below a clause says that the number stays the same: an invariant of the
     // type cannot tell of before and after.
+    #[inline(always)]
     fn word(&mut self) -> Result<Word<'a>, Fault>
         ensures line { IfOk result (λ w. w.line ≡ numbered self.old) }
         ensures took { Took said result (left self.new) (numbered self.old) (next_word (left self.old)) }
@@ -77,6 +79,7 @@ impl<'a> TextLine<'a> {
     }
 
     /// The next word, read as a field; a fault of layout where it is none.
+    #[inline(always)]
     pub fn field<F: Field>(&mut self) -> Result<F, Fault>
         ensures took { Took (λ x. x) result (left self.new) (numbered self.old) (next_field F.meaning (left self.old)) }
         ensures rest { left self.new ≡ after_word (left self.old) }
@@ -88,6 +91,7 @@ impl<'a> TextLine<'a> {
 
     /// The count that follows the section word `name`; a fault of layout where they do not stand
     /// next.
+    #[inline(always)]
     pub fn heading(&mut self, name: &[u8]) -> Result<u32, Fault>
         ensures took { Took (λ x. x) result (left self.new) (numbered self.old) (heading_of name.now (left self.old)) }
         ensures rest { left self.new ≡ after_heading name.now (left self.old) }
@@ -103,6 +107,7 @@ impl<'a> TextLine<'a> {
 }
 
 // The first word of the rest of a line, and what follows the space after it.
+#[inline(always)]
 fn split_word(rest: &[u8]) -> (&[u8], Option<&[u8]>)
     ensures word { result.0.now ≡ first_word (cut_at 32 rest.now) rest.now }
     ensures after { option_map (λ x. x.now) result.1 ≡ later_words (cut_at 32 rest.now) }

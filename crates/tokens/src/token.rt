@@ -25,6 +25,7 @@ pub struct Word<'a> {
 
 // Whether it is KIT, LEVELS, LOADS or CARD. The project takes section words, signs and digits by slice
 // patterns, first byte and rest.
+#[inline(always)]
 fn names_section(word: &[u8]) -> bool
     ensures { result ≡ is_section word.now }
 {
@@ -37,6 +38,7 @@ fn names_section(word: &[u8]) -> bool
 }
 
 // What a word is.
+#[inline(always)]
 pub(crate) fn token_of(word: &[u8]) -> Token<'_>
     ensures { meant result ≡ told word.now }
 {
@@ -49,6 +51,7 @@ pub(crate) fn token_of(word: &[u8]) -> Token<'_>
 }
 
 // Whether a token opens the section of this name.
+#[inline(always)]
 pub(crate) fn opens(token: Token<'_>, name: &[u8]) -> bool
     ensures { result ≡ as_section name.now (meant token.entry) }
 {

@@ -18,7 +18,8 @@ pub const INPUT_LIMIT: usize = 1 << 20;
 
 /// The text that answers an input: an order file, and a call a line after it. The file's loads are the first calls.
 pub fn transcript(input: &[u8], heap: Global) -> Result<String, AllocError>
-    ensures { IfOk result (λ t. Transcribed (take input_limit input.now) (string_bytes t)) }
+    ensures text { IfOk result (λ t. Transcribed (take input_limit input.now) (string_bytes t)) }
+    ensures size { INPUT_LIMIT ≡ input_limit }
 {
     answer(counted(input), heap)
 }

@@ -5,7 +5,7 @@ use Rattle.order_file.proofs.Many.{Going, faulty, one_more}
 use Rattle.order_file.proofs.reader.Reader.records.Goals as goal
 
 pub returns-in_err-record-clause-read : goal.returns-in_err-record-clause-read
-returns-in_err-record-clause-read g c = at_fault vec_items c.from_residual.result _ _ c.from_residual.ensures.1 (faulty c.loop.invariant.0 _ c.loop-test.true c.in_err-record.ensures)
+returns-in_err-record-clause-read g c = at_fault vec_items c.from_residual-in_err-record.result _ _ c.from_residual-in_err-record.ensures.1 (faulty c.loop.invariant.0 _ c.loop-test.true c.in_err-record.ensures)
 
 pub loop-preserved : goal.loop-preserved
 loop-preserved g c = (
