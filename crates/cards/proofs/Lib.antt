@@ -1,4 +1,5 @@
 pub mod Fields
 pub mod Fits
 pub mod Fractions
+pub mod Says
 pub mod Shears

@@ -126,7 +126,7 @@ abbrev pub slack : Card
 slack = record (card_with B None 40 100) { walls = Detached; c = 4; a0 = 4; load_factor = 100; gap = 10000 }
 
 -- of what the figures above leave out: the other soils, group A, detached walls, the third and the fourth limit, a limit that
--- is broken above storey 1, and lines that are denied, struck or abandoned
+-- is broken above storey 1, T at and above Tb, unequal axes, and lines that are denied, struck or abandoned
 pub record FurtherFigures : Type 0 where
   pub soil_i : separations (record sample { soil = I }) (alike 8) ≡ 5000 ∷ 5000 ∷ 5968 ∷ 7780 ∷ 9440 ∷ 10910 ∷ 12152 ∷ 13128 ∷ []
   pub soil_ii : (separations sample (alike 3) ≡ 5000 ∷ 5000 ∷ 6679 ∷ []) × ((sheet_of sample (alike 3)).verdict ≡ Fail 3 Gap)

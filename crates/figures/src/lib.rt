@@ -1,4 +1,5 @@
-//! Figures worked out by hand, which the definitions give: of the sheet, the base shear, spreading, and an order's lines.
+//! Figures worked out by hand, or by an independent reading of the rules, which the definitions give: of the sheet, the base
+//! shear, spreading, and an order's lines.
 #![tactic(auto)]
 
 ghost use Rattle.figures.specs.Figures.{Figures, FurtherFigures};

@@ -1,8 +1,8 @@
 //! What every refusal tells.
 ghost use Rattle.std.specs.Prelude.{◌≡◌, ℕ};
 
-/// A refusal has a number and a place, by which it is printed: which level, field or row it is about, or 0
-/// where it is about none.
+/// A refusal has a number and a place, by which it is printed: a number that tells where, or how much was needed; 0 where
+/// there is none to tell.
 pub trait Denial {
     ghost numbered: { Self → ℕ };
 

@@ -6,7 +6,7 @@ ghost use Rattle.records.specs.declared.failure.Failure.TheVariants.{Denied, NoM
 use crate::denial::Denial;
 use std::alloc::{AllocError, AllocFailed};
 
-/// What was given is denied, or it is good and there is no memory for it.
+/// What was given is denied, or memory is wanting.
 // An enum of its own, since `None` would not say that memory is wanting, and `?` makes either case.
 #[derive(Clone, Copy, Debug, PartialEq, Eq)]
 pub enum Failure<D> {

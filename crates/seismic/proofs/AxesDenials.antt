@@ -1,4 +1,4 @@
--- What a denial says of the levels, the storey and the axes.
+-- What a denial says of the card, the levels, the storey and the axes.
 use Rattle.std.proofs.Common.{◌≡◌, ℕ, zero, suc, ◌+◌, ◌-◌, ◌<◌, ◌≤◌, Bool, true, false, cond, not, ◌==◌, nat_le, List, [], ◌∷◌, length, slice_get, Some, None, Option, option_map, sym, refl, subst, arith}
 use Rattle.std.proofs.lemmas.Bool.{cond_both, eqb-true, leb-true, le-leb, and_parts, and_from}
 use Rattle.std.proofs.lemmas.Bool.Decides.{nat_tests}
@@ -7,6 +7,8 @@ use Rattle.records.specs.declared.card.Card.{Card}
 use Rattle.records.specs.Ranges.{from_to}
 use Rattle.cards.specs.declared.denial.CardDenial.{CardDenial}
 use Rattle.cards.specs.Denials.{card_denial}
+use Rattle.cards.specs.Fits.{GoodCard}
+use Rattle.cards.proofs.Says.{card_says, CardSays}
 use Rattle.seismic.specs.declared.axis.Axis.{Axis}
 use Rattle.seismic.specs.declared.denial.AxesDenial.{AxesDenial}
 use Rattle.seismic.specs.declared.denial.AxesDenial.TheVariants.{NoShears, NoSuchStorey, WrongCount, OutOfRange}
@@ -91,11 +93,12 @@ first_out n m (x ∷ axes) e =
 
 -- it is the one that the denial names, counted from 1
 denied_by_axis :
-    (levels storey : ℕ) (axes : List Axis) (d : AxesDenial) → StoreyIsThere levels storey → CountFits axes → (o : Option ℕ)
+    (card : Card) (levels storey : ℕ) (axes : List Axis) (d : AxesDenial) → GoodCard card → StoreyIsThere levels storey
+    → CountFits axes → (o : Option ℕ)
     → position_from (λ (a : Axis). not (stiffness_fits a)) 0 axes ≡ o
-    → out_of_range (option_map (λ (before : ℕ). before + 1) o) ≡ Some d → DeniedOnAxes levels storey axes d
-denied_by_axis levels storey axes d there count None found e = cc
-denied_by_axis levels storey axes d there count (Some m) found e =
+    → out_of_range (option_map (λ (before : ℕ). before + 1) o) ≡ Some d → DeniedOnAxes card levels storey axes d
+denied_by_axis card levels storey axes d good there count None found e = cc
+denied_by_axis card levels storey axes d good there count (Some m) found e =
     let f = first_out 0 m axes found in
     let same : OutOfRange (m + 1) ≡ d = cc in
     let at : m ≡ f.0 = omega (arith, f.1) in
@@ -103,41 +106,42 @@ denied_by_axis levels storey axes d there count (Some m) found e =
     let back : m ≡ (m + 1) - 1 = omega arith in
     let out = subst (λ (i : ℕ). ¬ FitsAt axes i) back first.out in
     let before = λ (j : ℕ) (from : 1 ≤ j) (under : j < m + 1). first.before (j - 1) (omega (arith, from, under)) in
-    subst (DeniedOnAxes levels storey axes) same (there, count, omega arith, omega (arith, first.there), out, before)
+    subst (DeniedOnAxes card levels storey axes) same (good, there, count, omega arith, omega (arith, first.there), out, before)
 
 -- a table that takes no shear, of a storey that is there
 table_denied :
-    (levels storey : ℕ) (axes : List Axis) (d : AxesDenial) → StoreyIsThere levels storey → table_denial axes ≡ Some d
-    → DeniedOnAxes levels storey axes d
-table_denied levels storey axes d there e =
+    (card : Card) (levels storey : ℕ) (axes : List Axis) (d : AxesDenial) → GoodCard card → StoreyIsThere levels storey
+    → table_denial axes ≡ Some d → DeniedOnAxes card levels storey axes d
+table_denied card levels storey axes d good there e =
     cond_both (from_to 1 16 (length axes)) (out_of_range (first_outside axes)) (Some WrongCount)
-    (λ (o : Option AxesDenial). o ≡ Some d → DeniedOnAxes levels storey axes d)
-    (λ few h. denied_by_axis levels storey axes d there (within 1 16 (length axes) few) _ refl h)
-    (λ many h. let same : WrongCount ≡ d = cc in subst (DeniedOnAxes levels storey axes) same (there, outside 1 16 (length axes) many)) e
+    (λ (o : Option AxesDenial). o ≡ Some d → DeniedOnAxes card levels storey axes d)
+    (λ few h. denied_by_axis card levels storey axes d good there (within 1 16 (length axes) few) _ refl h)
+    (λ many h. let same : WrongCount ≡ d = cc in subst (DeniedOnAxes card levels storey axes) same (good, there, outside 1 16 (length axes) many)) e
 
 -- a storey that is not there, or axes that take no shear
 storey_denied :
-    (levels storey : ℕ) (axes : List Axis) (d : AxesDenial) → 1 ≤ levels
-    → cond (from_to 1 levels storey) (table_denial axes) (Some (NoSuchStorey storey)) ≡ Some d → DeniedOnAxes levels storey axes d
-storey_denied levels storey axes d some e =
+    (card : Card) (levels storey : ℕ) (axes : List Axis) (d : AxesDenial) → GoodCard card → 1 ≤ levels
+    → cond (from_to 1 levels storey) (table_denial axes) (Some (NoSuchStorey storey)) ≡ Some d → DeniedOnAxes card levels storey axes d
+storey_denied card levels storey axes d good some e =
     cond_both (from_to 1 levels storey) (table_denial axes) (Some (NoSuchStorey storey))
-    (λ (o : Option AxesDenial). o ≡ Some d → DeniedOnAxes levels storey axes d)
-    (λ there h. table_denied levels storey axes d (within 1 levels storey there) h)
-    (λ gone h. let same : NoSuchStorey storey ≡ d = cc in subst (DeniedOnAxes levels storey axes) same (some, refl, outside 1 levels storey gone)) e
+    (λ (o : Option AxesDenial). o ≡ Some d → DeniedOnAxes card levels storey axes d)
+    (λ there h. table_denied card levels storey axes d good (within 1 levels storey there) h)
+    (λ gone h. let same : NoSuchStorey storey ≡ d = cc in subst (DeniedOnAxes card levels storey axes) same (some, good, refl, outside 1 levels storey gone)) e
 
 -- where there are levels: the card, or one of these
 card_denied :
-    (levels storey : ℕ) (axes : List Axis) (d : AxesDenial) → 1 ≤ levels → (o : Option CardDenial)
-    → sheared_denial (by_card o) levels storey axes ≡ Some d → DeniedOnAxes levels storey axes d
-card_denied levels storey axes d some None e = storey_denied levels storey axes d some e
-card_denied levels storey axes d some (Some bad) e = let same : NoShears (BadCard bad) ≡ d = cc in subst (DeniedOnAxes levels storey axes) same some
+    (card : Card) (levels storey : ℕ) (axes : List Axis) (d : AxesDenial) → 1 ≤ levels → (o : Option CardDenial) → CardSays card o
+    → sheared_denial (by_card o) levels storey axes ≡ Some d → DeniedOnAxes card levels storey axes d
+card_denied card levels storey axes d some None good e = storey_denied card levels storey axes d good some e
+card_denied card levels storey axes d some (Some bad) says e =
+    let same : NoShears (BadCard bad) ≡ d = cc in subst (DeniedOnAxes card levels storey axes) same (some, says)
 
 -- whatever stands against an axes call, what its denial says is so
 pub denied_on :
     (levels : ℕ) (card : Card) (storey : ℕ) (axes : List Axis) (d : AxesDenial) → axes_denial levels card storey axes ≡ Some d
-    → DeniedOnAxes levels storey axes d
+    → DeniedOnAxes card levels storey axes d
 denied_on levels card storey axes d e =
     cond_both (levels == 0) (Some NoLevels) (by_card (card_denial card))
-    (λ (o : Option ShearDenial). sheared_denial o levels storey axes ≡ Some d → DeniedOnAxes levels storey axes d)
-    (λ none h. let same : NoShears NoLevels ≡ d = cc in subst (DeniedOnAxes levels storey axes) same (eqb-true levels 0 none))
-    (λ some h. card_denied levels storey axes d (grind (arith, nat_tests, some)) (card_denial card) h) e
+    (λ (o : Option ShearDenial). sheared_denial o levels storey axes ≡ Some d → DeniedOnAxes card levels storey axes d)
+    (λ none h. let same : NoShears NoLevels ≡ d = cc in subst (DeniedOnAxes card levels storey axes) same (eqb-true levels 0 none))
+    (λ some h. card_denied card levels storey axes d (grind (arith, nat_tests, some)) (card_denial card) (card_says card) h) e

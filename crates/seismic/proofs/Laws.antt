@@ -4,6 +4,7 @@ use Rattle.records.specs.declared.card.Card.{Card}
 use Rattle.records.specs.declared.level.Level.{Level}
 use Rattle.cards.specs.Denials.{card_denial}
 use Rattle.cards.specs.Shears.{IsBaseShear}
+use Rattle.cards.proofs.Says.{good_card}
 use Rattle.cards.proofs.Shears.{shear_exact, shear_value}
 use Rattle.frames.specs.Levels.{Sound, weight_of}
 use Rattle.frames.specs.Lists.{limits}
@@ -25,6 +26,8 @@ lawful card ls ok sound some =
     let spread = sheared_spread v ls some fit in
     record {
       levels = refl;
+      some = some;
+      good = good_card card ok;
       weight = refl;
       base_shear = subst (IsBaseShear card (weight_of ls)) (shear_value card (weight_of ls) ok) (shear_exact card (weight_of ls) ok);
       row_a_level = row_a_level card v ls;

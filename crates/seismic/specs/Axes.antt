@@ -6,6 +6,7 @@ use Rattle.records.specs.declared.level.Level.{Level}
 use Rattle.records.specs.Ranges.{from_to}
 use Rattle.spreading.specs.Ceilings.{IsCeiling}
 use Rattle.spreading.specs.Spreads.{spread_over, IsSpread}
+use Rattle.cards.specs.Fits.{CheckedWhen, GoodCard}
 use Rattle.cards.specs.Shears.{IsBaseShear}
 use Rattle.frames.specs.Levels.{weight_of}
 use Rattle.seismic.specs.declared.axis.Axis.{Axis}
@@ -75,19 +76,20 @@ StoreyIsThere levels storey = (1 ≤ storey) × (storey ≤ levels)
 abbrev pub CountFits : List Axis → Type 0
 CountFits axes = (1 ≤ length axes) × (length axes ≤ 16)
 
--- what each denial says of the levels, the storey and the axes; which of a card's denials it is, the cards' own law says
-abbrev pub DeniedOnAxes : ℕ → ℕ → List Axis → AxesDenial → Type 0
-DeniedOnAxes levels storey axes (NoShears NoLevels) = levels ≡ 0
-DeniedOnAxes levels storey axes (NoShears (BadCard d)) = 1 ≤ levels
-DeniedOnAxes levels storey axes (NoSuchStorey k) = (1 ≤ levels) × (k ≡ storey) × ¬ StoreyIsThere levels storey
-DeniedOnAxes levels storey axes WrongCount = StoreyIsThere levels storey × ¬ CountFits axes
+-- what each denial says of the card, the levels, the storey and the axes; of a bad card, that its check answers so
+abbrev pub DeniedOnAxes : Card → ℕ → ℕ → List Axis → AxesDenial → Type 0
+DeniedOnAxes card levels storey axes (NoShears NoLevels) = levels ≡ 0
+DeniedOnAxes card levels storey axes (NoShears (BadCard d)) = (1 ≤ levels) × CheckedWhen card (Err d)
+DeniedOnAxes card levels storey axes (NoSuchStorey k) = (1 ≤ levels) × GoodCard card × (k ≡ storey) × ¬ StoreyIsThere levels storey
+DeniedOnAxes card levels storey axes WrongCount = GoodCard card × StoreyIsThere levels storey × ¬ CountFits axes
 -- the first axis outside its range
-DeniedOnAxes levels storey axes (OutOfRange k) =
-    StoreyIsThere levels storey × CountFits axes × (1 ≤ k) × (k ≤ length axes) × ¬ AxisFits axes k
+DeniedOnAxes card levels storey axes (OutOfRange k) =
+    GoodCard card × StoreyIsThere levels storey × CountFits axes × (1 ≤ k) × (k ≤ length axes) × ¬ AxisFits axes k
     × ((j : ℕ) → 1 ≤ j → j < k → AxisFits axes j)
 
 -- what the direct shears keep
 pub record Allotted (card : Card) (ls : List Level) (storey v : ℕ) (before after : List Axis) : Type 0 where
+  pub good : GoodCard card
   pub storey_from : 1 ≤ storey
   pub storey_to : storey ≤ length ls
   pub axes_from : 1 ≤ length before
@@ -104,4 +106,4 @@ pub record Allotted (card : Card) (ls : List Level) (storey v : ℕ) (before aft
 
 abbrev pub LawOnAxes : Card → List Level → ℕ → List Axis → Result ℕ AxesDenial → List Axis → Type 0
 LawOnAxes card ls storey before (Ok v) after = Allotted card ls storey v before after
-LawOnAxes card ls storey before (Err d) after = DeniedOnAxes (length ls) storey before d
+LawOnAxes card ls storey before (Err d) after = DeniedOnAxes card (length ls) storey before d

@@ -1,9 +1,10 @@
--- What every sheet keeps, stated over its levels and its rows alone. A storey is named by how many are below it.
+-- What every sheet keeps, stated over the card, its levels and its rows alone. A storey is named by how many are below it.
 use Rattle.std.specs.Prelude.{◌≡◌, ℕ, ◌+◌, ◌*◌, ◌-ℤ◌, ◌<◌, ◌≤◌, List, [], ◌∷◌, length, take, drop, sum_by, slice_get, Some, Ok, Err, Result, pos, max}
 use Rattle.std.specs.Int.{abs_diff}
 use Rattle.records.specs.declared.card.Card.{Card}
 use Rattle.records.specs.declared.level.Level.{Level}
 use Rattle.spreading.specs.Ceilings.{IsCeiling}
+use Rattle.cards.specs.Fits.{CheckedWhen, GoodCard}
 use Rattle.cards.specs.Shears.{factor, IsBaseShear}
 use Rattle.frames.specs.Levels.{level_height, weight_of}
 use Rattle.seismic.specs.declared.denial.ShearDenial.TheVariants.{NoLevels, BadCard}
@@ -83,6 +84,9 @@ Judged card ls rows (Fail storey limit) =
 
 pub record Lawful (card : Card) (ls : List Level) (sheet : Sheet) (rows : List Row) : Type 0 where
   pub levels : sheet.levels ≡ length ls
+  -- there are levels, and nothing is wrong with the card
+  pub some : 1 ≤ length ls
+  pub good : GoodCard card
   pub weight : sheet.weight ≡ weight_of ls
   -- V0 is the smallest whole number of kgf that is not below a × W0 / Q'
   pub base_shear : IsBaseShear card (weight_of ls) sheet.base_shear
@@ -93,13 +97,13 @@ pub record Lawful (card : Card) (ls : List Level) (sheet : Sheet) (rows : List R
   pub rows_stand : (i : ℕ) (l : Level) (r : Row) → slice_get ls i ≡ Some l → slice_get rows i ≡ Some r → RowStands card ls rows i l r
   pub judged : Judged card ls rows sheet.verdict
 
--- what each denial says of how many levels there are, and rows; which of a card's denials it is, the cards' own law says
-abbrev pub DeniedWhen : ℕ → ℕ → SheetDenial → Type 0
-DeniedWhen levels room (NoShears NoLevels) = levels ≡ 0
-DeniedWhen levels room (NoShears (BadCard d)) = 1 ≤ levels
-DeniedWhen levels room (TooFewRows needed) = (1 ≤ levels) × (needed ≡ levels) × (room < levels)
+-- what each denial says of how many levels there are, the card, and the rows; of a bad card, that its check answers so
+abbrev pub DeniedWhen : Card → ℕ → ℕ → SheetDenial → Type 0
+DeniedWhen card levels room (NoShears NoLevels) = levels ≡ 0
+DeniedWhen card levels room (NoShears (BadCard d)) = (1 ≤ levels) × CheckedWhen card (Err d)
+DeniedWhen card levels room (TooFewRows needed) = (1 ≤ levels) × GoodCard card × (needed ≡ levels) × (room < levels)
 
 -- of a sheet with its rows, or of a denial
 abbrev pub LawOf : Card → List Level → Result Sheet SheetDenial → List Row → Type 0
 LawOf card ls (Ok sheet) after = Lawful card ls sheet (take (length ls) after)
-LawOf card ls (Err d) after = DeniedWhen (length ls) (length after) d
+LawOf card ls (Err d) after = DeniedWhen card (length ls) (length after) d

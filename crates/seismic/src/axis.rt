@@ -33,6 +33,8 @@ impl Share for Axis {
 
     ghost keeps_part = { λ a tail part. refl };
 
+    ghost keeps_share = { λ a tail part. refl };
+
     fn share(&self) -> u64 {
         self.stiffness as u64
     }

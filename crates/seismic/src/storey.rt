@@ -56,6 +56,8 @@ impl Share for Storey {
 
     ghost keeps_part = { λ s tail part. refl };
 
+    ghost keeps_share = { λ s tail part. refl };
+
     fn share(&self) -> u64 {
         self.share
     }

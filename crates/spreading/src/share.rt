@@ -20,4 +20,7 @@ pub trait Share {
         ensures { self.new ≡ taken self.old tail part };
 
     ghost keeps_part: { (r : Self) (tail part : ℕ) → part_of (taken r tail part) ≡ part };
+
+    // its share stays
+    ghost keeps_share: { (r : Self) (tail part : ℕ) → share_of (taken r tail part) ≡ share_of r };
 }

@@ -1,3 +1,4 @@
+use Rattle.cards.proofs.Says.{good_card}
 use Rattle.seismic.proofs.OnAxes.{as_in_row, near_share, stiffness_stays}
 use Rattle.seismic.proofs.axes.give.Goals as goal
 
@@ -8,6 +9,7 @@ returns-clause-law g c =
     let v = c.shear_of-shear.result in
     let is = c.shear_of-shear.ensures in
     record {
+      good = good_card card.card card.ok;
       storey_from = c.requires.from;
       storey_to = c.requires.to;
       axes_from = c.requires.count.0;
