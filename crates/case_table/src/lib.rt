@@ -21,7 +21,7 @@ const CARD: &[u8] = b"CARD 1\nII B 360 100 20 60 - 20 100 W 110 60\n";
 
 /// What the cases of a table are about.
 pub trait Subject {
-    /// Whether this input gives this output.
+    /// Whether this input gives this output. No contract says so: cases that are wrong on purpose do.
     fn gives(input: &[u8], output: &[u8], heap: Global) -> Result<bool, AllocError>;
 }
 

@@ -14,6 +14,14 @@ sound_both xs ys p q few low =
     (omega (arith, total_append (λ (l : Level). l.height.0) xs ys, low))
     (fit_append xs ys (limits xs p).each (limits ys q).each)
 
+-- too many together, they are none
+pub too_many : (xs ys : List Level) → 24 < length xs + length ys → ¬ Sound (xs ++ ys)
+too_many xs ys many = λ s. absurd (omega (arith, length-append xs ys, many, (limits (xs ++ ys) s).few))
+
+-- nor too high together
+pub too_high : (xs ys : List Level) → 500 < height_of xs + height_of ys → ¬ Sound (xs ++ ys)
+too_high xs ys high = λ s. absurd (omega (arith, total_append (λ (l : Level). l.height.0) xs ys, high, (limits (xs ++ ys) s).low))
+
 -- which level stands at a number
 pub level_low : (xs ys : List Level) (k : ℕ) → k ≤ length xs → level_at (xs ++ ys) k ≡ level_at xs k
 level_low = at_low

@@ -1,5 +1,5 @@
 //! Two frames, one over the other.
-ghost use Rattle.std.specs.Prelude.{◌≡◌, ◌++◌, IfSome};
+ghost use Rattle.std.specs.Prelude.{◌≡◌, ◌++◌, IfNone, IfSome};
 ghost use Rattle.frames.specs.Levels.{Sound};
 
 use frames::frame::Frame;
@@ -17,13 +17,14 @@ pub struct Stacked<A: Frame, B: Frame> {
 
 impl<A: Frame, B: Frame> Stacked<A, B> {
     /// The two frames, where together they are neither too many levels nor too high.
-    #[tactic(auto, using(crate::proofs::Stacks::sound_both))]
+    #[tactic(auto, using(crate::proofs::Stacks::sound_both, crate::proofs::Stacks::too_many, crate::proofs::Stacks::too_high))]
     pub fn new(lower: A, upper: B) -> Option<Stacked<A, B>>
     where
         A: Drop,
         B: Drop,
         ensures lower { IfSome result (λ s. s.lower ≡ lower) }
         ensures upper { IfSome result (λ s. s.upper ≡ upper) }
+        ensures none { IfNone result (¬ Sound (A.Frame.list lower ++ B.Frame.list upper)) }
     {
         let levels = lower.count() + upper.count();
         let top = lower.top().decimetres() + upper.top().decimetres();
