@@ -3,5 +3,7 @@ pub mod Heights
 pub mod Passes
 pub mod Tables
 pub mod Toppings
+pub mod Pushes
+pub mod Standing
 pub mod Walks
 pub mod Kits

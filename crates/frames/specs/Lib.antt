@@ -9,6 +9,7 @@ pub mod Steppings
 pub mod Tables
 pub mod Toppings
 pub mod TypedLists
+pub mod Stacks
 pub mod Cases
 pub mod Lists
 pub mod Places

@@ -1,7 +1,7 @@
 -- What is known of a list of levels, place by place, and of a sound one.
-use Rattle.std.specs.Prelude.{◌≡◌, ℕ, zero, suc, ◌+◌, ◌*◌, ◌≤◌, true, List, [], ◌∷◌, ◌++◌, length, take, Some, None, nat_le}
-use Rattle.std.proofs.Common.{ap, arith}
-use Rattle.std.proofs.lemmas.Bool.{leb-true, le-leb, and_parts, and_from}
+use Rattle.std.specs.Prelude.{◌≡◌, ℕ, zero, suc, ◌+◌, ◌*◌, ◌≤◌, min, true, List, [], ◌∷◌, ◌++◌, length, take, Some, None, nat_le}
+use Rattle.std.proofs.Common.{sym, ap, ◌∙◌, inl, inr, arith, take_all}
+use Rattle.std.proofs.lemmas.Bool.{leb-true, le-leb, and_parts, and_from, cases_lt}
 use Rattle.records.specs.declared.level.Level.{Level}
 use Rattle.records.specs.Ranges.{level_fits, weight_fits}
 use Rattle.frames.specs.Levels.{Sound, all_fit, from_bottom, level_at, total, weight_of, height_of}
@@ -65,3 +65,11 @@ none_past (x ∷ xs) (suc i) e = omega (arith, none_past xs i e)
 
 pub none_over : (ls : List Level) (i : ℕ) → level_at ls (i + 1) ≡ None → length ls ≤ i
 none_over ls i e = let s : i + 1 ≡ suc i = omega arith in none_past ls i (rw s at e)
+
+-- no more can be taken than there is
+pub take_min : {X : Type 0} (n m : ℕ) (xs : List X) → length xs ≤ m → take (min n m) xs ≡ take n xs
+take_min n m xs p =
+    elim (cases_lt n m) [
+      | inl lt ↦ let e : min n m ≡ n = omega arith in rw e
+      | inr ge ↦ let e : min n m ≡ m = omega arith in rw e (take_all m xs p ∙ sym (take_all n xs (omega arith)))
+    ]

@@ -1,5 +1,5 @@
 -- Which level stands at a number, in lists put together.
-use Rattle.std.specs.Prelude.{◌≡◌, ℕ, zero, suc, ◌+◌, ◌-◌, ◌<◌, ◌≤◌, List, [], ◌∷◌, ◌++◌, length, Some, None, Option, slice_index_or, refl}
+use Rattle.std.specs.Prelude.{◌≡◌, ℕ, zero, suc, ◌+◌, ◌-◌, ◌<◌, ◌≤◌, List, [], ◌∷◌, ◌++◌, length, take, Some, None, Option, slice_index_or, refl}
 use Rattle.std.proofs.Common.{sym, ap, ◌∙◌, arith}
 use Rattle.std.specs.Borrow.{Bor}
 use Rattle.std.specs.Option.{option_map}
@@ -45,6 +45,16 @@ inside (x ∷ xs) (suc i) d h = inside xs i d (omega arith)
 pub at_inside : (xs : List Level) (k : ℕ) (d : Level) → 1 ≤ k → k ≤ length xs → level_at xs k ≡ Some (slice_index_or xs (k - 1) d)
 at_inside xs zero d p h = absurd (omega arith)
 at_inside xs (suc k) d p h = let e : suc k - 1 ≡ k = omega arith in rw e (inside xs k d (omega arith))
+
+below : (ls : List Level) (n i : ℕ) → i < n → from_bottom (take n ls) i ≡ from_bottom ls i
+below ls zero i p = absurd (omega arith)
+below [] (suc n) i p = refl
+below (x ∷ xs) (suc n) zero p = refl
+below (x ∷ xs) (suc n) (suc i) p = below xs n i (omega arith)
+
+pub at_take : (ls : List Level) (n k : ℕ) → k ≤ n → level_at (take n ls) k ≡ level_at ls k
+at_take ls n zero p = refl
+at_take ls n (suc k) p = below ls n k (omega arith)
 
 found : (xs : List Level) (i : ℕ) (r : Option (Bor Level)) → IsGetResult xs i i r → option_map (λ x. x.now) r ≡ from_bottom xs i
 found xs i None h = sym (beyond xs i h.3)

@@ -2,15 +2,15 @@
 use Rattle.std.specs.Prelude.{◌≡◌, ℕ, ◌+◌, ◌-◌, List, [], ◌∷◌, ◌++◌, length, Some, None, Ok, Err, Option, Result}
 use Rattle.records.specs.declared.level.Level.{Level}
 use Rattle.frames.specs.declared.denial.FrameDenial.{FrameDenial}
-use Rattle.frames.specs.declared.frame.Frame.{Ghosts}
 use Rattle.frames.specs.declared.topping.Topping.{Topping}
 use Rattle.frames.specs.Additions.{add_denial}
 use Rattle.frames.specs.Levels.{height_of}
 use Rattle.frames.specs.OwnStoreys.{own_storeys}
+use Rattle.frames.specs.Steps.{stacked}
 
--- the list below, and on it the topping's own storeys
-abbrev pub topped : {F : Type 0} {g : Ghosts F} → (F → List Level) → Topping F g → List Level
-topped list t = list t.below ++ own_storeys t.own
+-- the list below, and the topping's own storeys as far as a frame's limits allow
+abbrev pub topped : {F : Type 0} → (F → List Level) → Topping F → List Level
+topped list t = stacked (list t.below) (own_storeys t.own)
 
 -- how many storeys the whole list has over the list below
 abbrev pub own_count : List Level → List Level → ℕ

@@ -4,7 +4,7 @@ ghost use Rattle.frames.specs.Kits.{kit_in_range, kit_denial, kit_list};
 
 use crate::denial::FrameDenial;
 use crate::frame::Frame;
-use records::height::LevelHeight;
+use records::height::{LevelHeight, StoreyHeight};
 use records::kit_numbers::KitNumbers;
 use records::level::Level;
 use records::limits::MOST_LEVELS;
@@ -78,5 +78,12 @@ impl Frame for Kit {
             Ordering::Equal => Some(self.numbers.roof()),
             Ordering::Greater => None,
         }
+    }
+
+    // As high as one storey of all their heights together.
+    #[tactic(auto, using(crate::proofs::Kits::raised_to_top))]
+    fn top(&self) -> LevelHeight {
+        let storeys = StoreyHeight(self.numbers.levels * self.numbers.height.0);
+        LevelHeight::ground().above(storeys).unwrap()
     }
 }

@@ -1,5 +1,7 @@
 //! The storeys that a topping keeps of its own.
-ghost use Rattle.std.specs.Prelude.{◌≡◌, ◌<◌, ◌≤◌, [], ◌∷◌, ◌++◌, length};
+ghost use Rattle.std.specs.Prelude.{◌≡◌, ◌<◌, ◌≤◌, true, [], ◌∷◌, ◌++◌, take};
+ghost use Rattle.records.specs.Ranges.{level_fits};
+ghost use Rattle.frames.specs.Levels.{all_fit};
 
 use records::level::Level;
 use records::limits::MOST_STOREYS;
@@ -11,6 +13,7 @@ pub(crate) struct Storeys {
     records: [Level; MOST_STOREYS],
     count: u32,
     ghost few: { count ≤ 8 },
+    ghost fit: { all_fit (take count records) ≡ true },
 }
 
 impl Storeys {
@@ -32,19 +35,14 @@ impl Storeys {
         &self.records[..self.count as usize]
     }
 
-    // How many there are.
-    pub(crate) fn count(&self) -> u32
-        ensures { result ≡ length (own_storeys self.now) }
+    // Keeps the first so many of them, and puts a level onto those.
+    pub(crate) fn put(&mut self, kept: u32, level: Level)
+        requires within { kept < 8 }
+        requires there { kept ≤ self.old.count }
+        requires fits { level_fits level ≡ true }
+        ensures { own_storeys self.new ≡ take kept (own_storeys self.old) ++ level ∷ [] }
     {
-        self.count
-    }
-
-    // Puts a level onto them.
-    pub(crate) fn put(&mut self, level: Level)
-        requires { length (own_storeys self.old) < 8 }
-        ensures { own_storeys self.new ≡ own_storeys self.old ++ level ∷ [] }
-    {
-        self.records[self.count as usize] = level;
-        self.count += 1;
+        self.records[kept as usize] = level;
+        self.count = kept + 1;
     }
 }

@@ -1,6 +1,6 @@
 //! A frame with up to eight storeys of its own over another.
-ghost use Rattle.std.specs.Prelude.{◌≡◌, ◌+◌, [], ◌∷◌, ◌++◌, length, None};
-ghost use Rattle.frames.specs.Levels.{Sound};
+ghost use Rattle.std.specs.Prelude.{◌≡◌, ◌+◌, ◌≤◌, [], ◌∷◌, ◌++◌, length, None};
+ghost use Rattle.frames.specs.Levels.{top_of};
 ghost use Rattle.frames.specs.OwnStoreys.{own_storeys};
 ghost use Rattle.frames.specs.Tables.{Checked};
 ghost use Rattle.frames.specs.Additions.{add_denial};
@@ -10,15 +10,18 @@ use crate::frame::Frame;
 use crate::listed::level_of;
 use crate::stack::Stack;
 use crate::storeys::Storeys;
+use records::height::LevelHeight;
 use records::level::Level;
 use records::limits::MOST_STOREYS;
 
 /// Another frame with storeys on it.
+// No bound and no fact about the list below stand here: a type that holds a topping would have to repeat the bound, and one
+// that holds a topping on a topping of any frame, or leads back to itself, could not be stated. So which storeys stand is
+// judged when it is asked.
 #[derive(Debug, Drop)]
-pub struct Topping<F: Frame> {
+pub struct Topping<F> {
     below: F,
     own: Storeys,
-    pub ghost whole: { Sound (F.list below ++ own_storeys own) },
 }
 
 impl<F: Frame> Topping<F> {
@@ -41,26 +44,45 @@ impl<F: Frame> Topping<F> {
             (⟦<Topping<F> as Frame>⟧.list self.new) level result }
         ensures below { self.new.below ≡ self.old.below }
     {
-        self.admit(&level)?;
-        self.put(level);
+        let own = self.standing();
+        self.admit(own, &level)?;
+        self.put(own, level);
         Ok(())
     }
 
-    // Whether one level more may come on top.
-    fn admit(&self, level: &Level) -> Result<(), FrameDenial>
+    // Whether one level more may come on top, where so many of its own storeys stand.
+    fn admit(&self, own: u32, level: &Level) -> Result<(), FrameDenial>
+        requires { length (F.Frame.list self.now.below) + own ≡ length (topped F.Frame.list self.now) }
         ensures { Checked (denial_over (F.Frame.list self.now.below) (topped F.Frame.list self.now) level.now) result }
     {
-        judge_added(Stack::of(self), self.own.count(), level)
+        judge_added(Stack::of(self), own, level)
     }
 
-    // Puts a level on top that was admitted.
-    fn put(&mut self, level: Level)
-        requires { denial_over (F.Frame.list self.old.below) (topped F.Frame.list self.old) level ≡ None }
+    // Puts a level that was admitted onto those of its own that stand.
+    fn put(&mut self, own: u32, level: Level)
+        requires stand { length (F.Frame.list self.old.below) + own ≡ length (topped F.Frame.list self.old) }
+        requires good { denial_over (F.Frame.list self.old.below) (topped F.Frame.list self.old) level ≡ None }
         ensures list { topped F.Frame.list self.new ≡ topped F.Frame.list self.old ++ level ∷ [] }
         ensures more { own_count (F.Frame.list self.old.below) (topped F.Frame.list self.new) ≡ own_count (F.Frame.list self.old.below) (topped F.Frame.list self.old) + 1 }
         ensures below { self.new.below ≡ self.old.below }
     {
-        self.own.put(level);
+        self.own.put(own, level);
+    }
+
+    // How many of its own storeys stand.
+    fn standing(&self) -> u32
+        ensures { length (F.Frame.list self.now.below) + result ≡ length (topped F.Frame.list self.now) }
+    {
+        let stack = self.stack();
+        stack.levels - self.below.count()
+    }
+
+    // The levels of the frame below, and those of its own storeys that stand on them.
+    fn stack(&self) -> Stack
+        ensures levels { result.levels ≡ length (topped F.Frame.list self.now) }
+        ensures top { result.top ≡ top_of (topped F.Frame.list self.now) }
+    {
+        Stack::of(&self.below).with_standing(&self.own)
     }
 }
 
@@ -79,23 +101,29 @@ fn judge_added(stack: Stack, own: u32, level: &Level) -> Result<(), FrameDenial>
 
 impl<F: Frame> Frame for Topping<F> {
     ghost use Rattle.frames.specs.Toppings.{topped};
+    ghost use Rattle.frames.specs.Stacks.{stacked_sound};
 
     ghost list = { topped F.Frame.list };
 
-    ghost sound = { λ t. t.whole };
+    ghost sound = { λ t. stacked_sound (F.Frame.list t.below) (own_storeys t.own) (F.Frame.sound t.below) };
 
-    #[tactic(auto, using(crate::proofs::Toppings::whole_count))]
     fn count(&self) -> u32 {
-        self.below.count() + self.own.count()
+        self.stack().levels
     }
 
-    #[tactic(auto, using(crate::proofs::Toppings::level_below, crate::proofs::Toppings::level_own))]
+    #[tactic(auto, using(crate::proofs::Toppings::level_below))]
     fn level(&self, k: u32) -> Option<Level> {
         let below = self.below.count();
         if k <= below {
-            self.below.level(k)
-        } else {
-            level_of(self.own.levels(), k - below)
+            return self.below.level(k);
         }
+        if k > self.count() {
+            return None;
+        }
+        level_of(self.own.levels(), k - below)
+    }
+
+    fn top(&self) -> LevelHeight {
+        self.stack().top
     }
 }

@@ -5,7 +5,6 @@ use Rattle.records.specs.declared.level.Level.{Level}
 use Rattle.frames.specs.declared.denial.FrameDenial.{FrameDenial}
 use Rattle.records.specs.declared.failure.Failure.{Failure}
 use Rattle.records.specs.declared.failure.Failure.TheVariants.{Denied, NoMemory}
-use Rattle.frames.specs.declared.frame.Frame.{Ghosts}
 use Rattle.frames.specs.declared.kit.Kit.{Kit}
 use Rattle.frames.specs.declared.topping.Topping.{Topping}
 use Rattle.frames.specs.KitFrames.{made_list}
@@ -31,7 +30,7 @@ Framed kit levels (Err (Denied d)) = frame_denial kit levels ≡ Some d
 Framed kit levels (Err NoMemory) = (frame_denial kit levels ≡ None) × (kit ≡ None)
 
 -- the same of a kit with levels put on it
-abbrev pub ToppedBy : {g : Ghosts Kit} → KitNumbers → List Level → Result (Topping Kit g) FrameDenial → Type 0
+abbrev pub ToppedBy : KitNumbers → List Level → Result (Topping Kit) FrameDenial → Type 0
 ToppedBy n levels (Ok t) =
     (frame_denial (Some n) levels ≡ None) × (topped made_list t ≡ frame_levels (Some n) levels) × (t.below.numbers ≡ n)
 ToppedBy n levels (Err d) = frame_denial (Some n) levels ≡ Some d

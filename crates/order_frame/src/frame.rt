@@ -3,6 +3,10 @@ ghost use Rattle.std.specs.Prelude.{◌≡◌, IfOk};
 ghost use Rattle.order_frame.specs.Frames.{frame_levels};
 ghost use Rattle.order_frame.specs.OrderFrames.{frame_list, Framed, ToppedBy};
 ghost use Rattle.order_frame.specs.Reasons.{Reasoned, ReasonTold};
+ghost use Rattle.frames.specs.KitFrames.{made_list};
+ghost use Rattle.frames.specs.KitLists.{kit_sound};
+ghost use Rattle.frames.specs.OwnStoreys.{own_storeys};
+ghost use Rattle.frames.specs.Stacks.{stacked_sound};
 ghost use Rattle.order_frame.specs.declared.frame.OrderFrame.TheVariants.{Typed, Topped};
 
 use frames::denial::FrameDenial;
@@ -73,7 +77,7 @@ impl Frame for OrderFrame {
 
     ghost sound = { elim [
       | Typed t ↦ t.ok
-      | Topped t ↦ t.whole
+      | Topped t ↦ stacked_sound (made_list t.below) (own_storeys t.own) (kit_sound t.below.numbers t.below.ok)
     ] };
 
     fn count(&self) -> u32 {

@@ -2,11 +2,15 @@
 //! are printed as every program prints them.
 #![tactic(auto)]
 
+ghost use Rattle.std.specs.Prelude.{◌≡◌, length};
+
 mod stacked;
+mod tower;
 
 use answer_text::AnswerText;
 use frames::frame::Frame;
 use frames::kit::Kit;
+use frames::topping::Topping;
 use frames::typed::Typed;
 use orders::order::Order;
 use orders::state::Issued;
@@ -22,6 +26,7 @@ use seismic::axis::Axis;
 use seismic::row::Row;
 use stacked::Stacked;
 use std::alloc::{AllocError, AllocFailed, Global};
+use tower::{Chain, Tower};
 
 const KIT: KitNumbers = KitNumbers {
     levels: 2,
@@ -147,6 +152,20 @@ fn issued<F: Frame + Drop>(frame: F, heap: Global) -> Result<Order<F, Issued>, A
     Ok(order.issue())
 }
 
+// How many levels a tower on this frame has.
+fn towered<F: Frame + Drop>(below: F) -> u32
+    ensures { result ≡ length (F.Frame.list below) }
+{
+    Tower::new(below).count()
+}
+
+// The same of a chain of one topping on it.
+fn chained<F: Frame + Drop>(below: F) -> u32
+    ensures { result ≡ length (F.Frame.list below) }
+{
+    Chain::of(Topping::new(below)).count()
+}
+
 fn main(rt: HostRuntime) -> anyhow::Result<()> {
     let heap = rt.alloc();
     let (Some(frame), Some(lower)) = (building(heap), building(heap)) else {
@@ -159,5 +178,10 @@ fn main(rt: HostRuntime) -> anyhow::Result<()> {
     for answer in run(issued(lower, heap)?, second_day(heap)?, heap)? {
         rt.print(AnswerText(&answer))?;
     }
+    let Ok(kit) = Kit::new(KIT) else {
+        rt.println("no kit")?;
+        return Ok(());
+    };
+    println!(rt; "HELD {} {}", towered(kit), chained(kit))?;
     Ok(())
 }
