@@ -1,7 +1,7 @@
 //! A refusal as every program prints it.
 ghost use Rattle.std.specs.Prelude.{◌≡◌, [], Some};
 ghost use Rattle.pen.specs.Tails.{CopiedTo};
-ghost use Rattle.tokens.specs.Text.{joined};
+ghost use Rattle.tokens.specs.Text.{joined, line_of};
 ghost use Rattle.order_frame.specs.Refusals.{refusal_number, refusal_line, refusal_place, refusal_told, refusal_words, refused_words};
 ghost use Rattle.order_frame.specs.declared.refusal.Refusal.TheVariants.{Faulty};
 
@@ -22,6 +22,21 @@ pub enum Refusal {
 }
 
 impl Refusal {
+    /// The refusal of any denial that a line of the file is to blame for.
+    pub fn on_line<D: Denial>(denial: &D, line: u32) -> RefusedWords<'_, D>
+        ensures denial { result.denial.now ≡ denial.now }
+        ensures line { result.line ≡ line }
+    {
+        RefusedWords { denial, line }
+    }
+
+    /// The words of its line, with the byte that ends it. It always has them.
+    pub fn words(&self) -> Tail
+        ensures { result ≡ line_of (refused_words self.now) [] }
+    {
+        Refusal::on_line(self, self.line()).words()
+    }
+
     /// The line of the file that is to blame.
     pub fn line(&self) -> u32
         ensures { result ≡ refusal_line self.now }
@@ -83,11 +98,11 @@ impl<D: Denial> RefusedWords<'_, D> {
     pub fn write_line(&self, out: &mut [u8]) -> Option<usize>
         ensures { CopiedTo (refusal_told D.numbered D.placed self.now.denial.now self.now.line) out.old result out.new }
     {
-        self.told().copy_to(out)
+        self.words().copy_to(out)
     }
 
-    // The refusal's line.
-    fn told(&self) -> Tail
+    /// The words of its line, with the byte that ends it. It always has them.
+    pub fn words(&self) -> Tail
         ensures { result ≡ refusal_told D.numbered D.placed self.now.denial.now self.now.line }
     {
         let mut line = Tail::new();
@@ -112,7 +127,7 @@ impl<D: Denial> fmt::Display for RefusedWords<'_, D> {
     ghost output = { λ words. Some (joined (refusal_words (D.numbered words.denial.now) words.line (D.placed words.denial.now))) };
 
     fn fmt<W: fmt::Write>(&self, f: &mut fmt::Formatter<W>) -> fmt::Result {
-        let line = self.told();
+        let line = self.words();
         // Without the byte that ends it, since what prints a refusal ends the line.
         let Some((_, words)) = line.bytes().split_last() else {
             return Err(fmt::Error);
