@@ -1,7 +1,7 @@
 //! A frame as it is listed: a heading, and a line a level.
 ghost use Rattle.std.specs.Prelude.{◌≡◌, [], length, Some};
 ghost use Rattle.tokens.specs.Text.{line_of};
-ghost use Rattle.listing.specs.Listings.{levels_text, row_words};
+ghost use Rattle.listing.specs.Listings.{heading, levels_text, row_words};
 
 use frames::frame::Frame;
 use records::height::LevelHeight;
@@ -12,6 +12,12 @@ use std::fmt;
 #[derive(Drop)]
 pub(crate) struct Listed<'a, F> {
     pub(crate) frame: &'a F,
+}
+
+// How many levels a frame has, what they weigh, and how high the top is.
+#[derive(Drop)]
+struct Heading<'a, F> {
+    frame: &'a F,
 }
 
 // Level `number` of a frame, at this height over the ground, as its line tells it.
@@ -30,18 +36,23 @@ impl fmt::Display for Row<'_> {
     }
 }
 
+impl<F: Frame> fmt::Display for Heading<'_, F> {
+    ghost output = { λ head. Some (heading (F.Frame.list head.frame.now)) };
+
+    fn fmt<W: fmt::Write>(&self, f: &mut fmt::Formatter<W>) -> fmt::Result {
+        let count = self.frame.count();
+        let weight = self.frame.total_weight();
+        let top = self.frame.top();
+        writeln!(f, "LEVELS {count} {weight} {top}")
+    }
+}
+
 impl<F: Frame> fmt::Display for Listed<'_, F> {
     ghost output = { λ listed. Some (levels_text (F.Frame.list listed.frame.now)) };
 
     fn fmt<W: fmt::Write>(&self, f: &mut fmt::Formatter<W>) -> fmt::Result {
         let frame = self.frame;
-        writeln!(
-            f,
-            "LEVELS {} {} {}",
-            frame.count(),
-            frame.total_weight(),
-            frame.top()
-        )?;
+        write!(f, "{}", Heading { frame })?;
         let mut height = LevelHeight::ground();
         for (below, level) in frame.levels().enumerate() {
             height = height.above(level.height).unwrap();

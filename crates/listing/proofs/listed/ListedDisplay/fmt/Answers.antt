@@ -37,5 +37,5 @@ loop-below-preserved g c =
       λ plain.
           let before = c.loop-below.invariant.3 plain in
           has_written_of_eq _ _ _ _ _ (line_more ls n c.in-Some.below _ c.in-Some.level c.unwrap-height.result.0 (heading ls) s.1 s.2 p.at high)
-          (has_written_append _ _ _ _ _ _ before (c.in_ok-write.ensures.writes before.plain refl)),
+          (has_written_append _ _ _ _ _ _ before (c.in_ok-write-2.ensures.writes before.plain refl)),
     )
